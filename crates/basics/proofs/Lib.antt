@@ -1,0 +1,2 @@
+-- Facts that belong to no layer.
+pub mod Decided

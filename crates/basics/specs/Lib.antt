@@ -1,0 +1,3 @@
+-- Definitions that belong to no layer.
+pub mod Sum
+pub mod Extreme

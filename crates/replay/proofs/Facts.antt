@@ -1,0 +1,8 @@
+-- What can be said of lists holds. Assumes nothing.
+use Rattle.replay.specs.Facts.{ListFacts}
+use Rattle.replay.proofs.Reading.{row-read}
+use Rattle.replay.proofs.Judging.{row-judged}
+use Rattle.replay.proofs.Adding.{adds-up}
+
+pub list-facts : ListFacts
+list-facts = record { row-read = row-read; row-judged = row-judged; adds-up = adds-up }

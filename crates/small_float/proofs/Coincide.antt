@@ -1,0 +1,26 @@
+-- Any two results that a contract of this crate allows coincide. Assumes nothing.
+use mathlib.Core.Path.{_≡_, sym, ap, _∙_}
+use Prim.Native.Nat.{ℕ}
+use native.Mathlib.Omega.{arith}
+use Rattle.small_float.specs.declared.Size.{Size}
+use Rattle.small_float.specs.declared.Class.{Class}
+use Rattle.small_float.specs.declared.ext.Smallest.{Smallest}
+use Rattle.small_float.specs.declared.ext.Smallest.the-variants.{Store, TooLarge}
+use Rattle.small_float.specs.Smallest.{SmallestStore, refusalOf, storeOf}
+
+-- a class, or a size, is given by its number
+pub one-class : {n : ℕ} (a b : Class) → a .0 ≡ n → b .0 ≡ n → a ≡ b
+one-class a b p q = λ i. record { 0 = (p ∙ sym q) i }
+
+pub one-size : {n : ℕ} (a b : Size) → a .0 ≡ n → b .0 ≡ n → a ≡ b
+one-size a b p q = λ i. record { 0 = (p ∙ sym q) i }
+
+-- an answer to the smallest-store question is given by its number and its figure
+same-answer : (a b : Smallest) → refusalOf a ≡ refusalOf b → storeOf a ≡ storeOf b → a ≡ b
+same-answer (Store s) (Store t) n f = ap Store (λ i. record { 0 = f i })
+same-answer (Store s) TooLarge n f = absurd (omega arith)
+same-answer TooLarge (Store t) n f = absurd (omega arith)
+same-answer TooLarge TooLarge n f = λ i. TooLarge
+
+pub one-answer : (object : ℕ) (a b : Smallest) → SmallestStore object a → SmallestStore object b → a ≡ b
+one-answer object a b p q = same-answer a b (p .number ∙ sym (q .number)) (p .figure ∙ sym (q .figure))

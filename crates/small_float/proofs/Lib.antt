@@ -1,0 +1,8 @@
+-- The argument's order: a size in parts, the values of classes, what rounding gives, document 01's facts and its table.
+-- Coincide shows that each contract allows one result only.
+pub mod Parts
+pub mod Values
+pub mod Rounding
+pub mod Facts
+pub mod Table
+pub mod Coincide

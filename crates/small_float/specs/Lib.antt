@@ -1,0 +1,6 @@
+-- What a size class is. Class has the definitions, Table and Facts what document 01 says of them, and Smallest what the smallest-store
+-- question answers.
+pub mod Class
+pub mod Table
+pub mod Facts
+pub mod Smallest

@@ -1,0 +1,34 @@
+//! Runs the crate offset-allocator and writes down what it answers: a list for
+//! each command, the same bytes on every run.
+
+mod classes;
+mod splitmix;
+
+use std::io::{self, BufWriter, Write};
+use std::process::ExitCode;
+
+const USAGE: &str = "\
+usage: oracle COMMAND
+  classes    the size classes: every class with its value, and sizes with their classes";
+
+fn main() -> ExitCode {
+    let arguments: Vec<String> = std::env::args().skip(1).collect();
+    let arguments: Vec<&str> = arguments.iter().map(String::as_str).collect();
+    let mut out = BufWriter::new(io::stdout().lock());
+
+    let written = match arguments[..] {
+        ["classes"] => classes::write(&mut out),
+        _ => {
+            eprintln!("{USAGE}");
+            return ExitCode::from(2);
+        }
+    };
+
+    match written.and_then(|()| out.flush()) {
+        Ok(()) => ExitCode::SUCCESS,
+        Err(error) => {
+            eprintln!("oracle: {error}");
+            ExitCode::FAILURE
+        }
+    }
+}
