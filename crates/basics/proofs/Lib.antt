@@ -1,2 +1,4 @@
 -- Facts that belong to no layer.
 pub mod Decided
+pub mod Clash
+pub mod Sums

@@ -1,10 +1,11 @@
 -- Document 01's facts on size classes hold. Assumes nothing.
-use Prim.Native.Nat.{ℕ, suc, _^_, _≤_, _<_}
+use Prim.Native.Nat.{ℕ, _^_, _≤_, _<_}
 use native.Mathlib.Omega.{arith}
 use Rattle.small_float.specs.Class.{down, up, value, greatestServed}
 use Rattle.small_float.specs.Facts.{Serves, ClassFacts}
 use Rattle.small_float.proofs.Values.{value-lt, value-le, value-239}
-use Rattle.small_float.proofs.Rounding.{down-value, down-largest, down-most, up-value, up-smallest, up-near, up-most, up-served, up-unserved, reaches, fits}
+use Rattle.small_float.proofs.Rounding.{down-value, down-largest, down-most, up-value, up-smallest, up-near, up-most}
+use Rattle.small_float.proofs.Rounding.{up-served, up-unserved, reaches, fits}
 
 value-of-up : (s : ℕ) → s ≤ greatestServed → value (up s) < 2 ^ 32
 value-of-up s h = omega (arith, value-le (up s) 239 (up-served s h), value-239)
@@ -22,7 +23,10 @@ class-facts = record {
   value-increases = value-lt;
   fits = fits;
   reaches = reaches;
-  smallest = λ s. (down-largest (value (up s)) (up s) (omega arith), λ n h. omega (arith, value-le (up s) (down n) h, down-value n));
+  smallest = λ s. (
+    down-largest (value (up s)) (up s) (omega arith),
+    λ n h. omega (arith, value-le (up s) (down n) h, down-value n),
+  );
   smallest-fits = value-of-up;
   none-serves = none-serves;
 }

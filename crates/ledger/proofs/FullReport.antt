@@ -1,0 +1,54 @@
+-- The full report counts the free regions of the line, class by class. Assumes nothing.
+use mathlib.Core.Path.{_≡_, refl, ap, _∙_, fun-ext}
+use Prim.Native.Nat.{ℕ, _+_}
+use native.Mathlib.Omega.{arith}
+use mathlib.Core.Bool.{Bool, true, false, cond, _&&_}
+use mathlib.Core.List.{List, [], _∷_, map}
+use lib.ListN.{length}
+use lib.Dec.{eqb}
+use Rattle.basics.specs.Sum.{one, is, tally}
+use Rattle.small_float.specs.Class.{down, shownValue}
+use Rattle.ledger.specs.Ledger.{Ledger, Region, live, free, numbersFrom, fullAt, fullReport}
+use Rattle.ledger.specs.WellFormed.{stands, WellFormed}
+use Rattle.ledger.specs.Claims.{freeOfClass}
+use Rattle.ledger.proofs.Numbers.{same-length}
+
+-- the records of the free regions of class c, in the line's order
+recordsOf : ℕ → List Region → List ℕ
+recordsOf c [] = []
+recordsOf c (live n r ∷ rest) = recordsOf c rest
+recordsOf c (free n r ∷ rest) = cond (eqb c (down n)) (r ∷ recordsOf c rest) (recordsOf c rest)
+
+records-stand : (c i : ℕ) (line : List Region) → tally (is i) (recordsOf c line) ≡ tally (stands c i) line
+unfolding recordsOf tally
+records-stand c i [] = refl
+records-stand c i (live n r ∷ rest) = omega (arith, records-stand c i rest)
+records-stand c i (free n r ∷ rest) = go (eqb c (down n)) (records-stand c i rest)
+  where
+    go : (t : Bool) → tally (is i) (recordsOf c rest) ≡ tally (stands c i) rest
+        → tally (is i) (cond t (r ∷ recordsOf c rest) (recordsOf c rest)) ≡ one (t && eqb r i) + tally (stands c i) rest
+    go true e = omega arith
+    go false e = omega arith
+
+records-many : (c : ℕ) (line : List Region) → length (recordsOf c line) ≡ tally (freeOfClass c) line
+unfolding recordsOf tally
+records-many c [] = refl
+records-many c (live n r ∷ rest) = omega (arith, records-many c rest)
+records-many c (free n r ∷ rest) = go (eqb c (down n)) (records-many c rest)
+  where
+    go : (t : Bool) → length (recordsOf c rest) ≡ tally (freeOfClass c) rest
+        → length (cond t (r ∷ recordsOf c rest) (recordsOf c rest)) ≡ one t + tally (freeOfClass c) rest
+    go true e = omega arith
+    go false e = omega arith
+
+module _ (size count : ℕ) where
+  -- a stack is as long as its class has free regions
+  pub stack-length : (l : Ledger) → WellFormed size count l → (c : ℕ) → length (l .stacks c) ≡ tally (freeOfClass c) (l .line)
+  stack-length l w c =
+      same-length (l .stacks c) (recordsOf c (l .line)) (λ i. omega (arith, w .stacked .exactly c i, records-stand c i (l .line)))
+      ∙ records-many c (l .line)
+
+  pub full-report : (l : Ledger) → WellFormed size count l
+      → fullReport l ≡ map (λ c. (shownValue c, tally (freeOfClass c) (l .line))) (numbersFrom 0 256)
+  unfolding fullReport fullAt
+  full-report l w = ap (λ entry. map entry (numbersFrom 0 256)) (fun-ext (λ c. ap (λ n. (shownValue c, n)) (stack-length l w c)))

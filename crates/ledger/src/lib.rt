@@ -1,0 +1,1 @@
+// No code: this crate says what the allocator means. specs/Ledger.antt is where to start.
