@@ -2,3 +2,5 @@
 pub mod Decided
 pub mod Clash
 pub mod Sums
+pub mod Counts
+pub mod Pigeons

@@ -12,34 +12,28 @@ use Rattle.basics.proofs.Decided.{Same, same, differ, same?, eqb-same, 
 -- ---- sums
 module _ {A : Type 0} where
   pub tally-append : (f : A → ℕ) (front rest : List A) → tally f (front ++ rest) ≡ tally f front + tally f rest
-  unfolding tally
   tally-append f [] rest = omega arith
   tally-append f (x ∷ front) rest = omega (arith, tally-append f front rest)
 
   -- the order does not matter
   pub tally-reverseAux : (f : A → ℕ) (front rest : List A) → tally f (reverseAux front rest) ≡ tally f front + tally f rest
-  unfolding tally
   tally-reverseAux f [] rest = omega arith
   tally-reverseAux f (x ∷ front) rest = omega (arith, tally-reverseAux f front (x ∷ rest))
 
   pub tally-le : (f g : A → ℕ) → ((x : A) → f x ≤ g x) → (xs : List A) → tally f xs ≤ tally g xs
-  unfolding tally
   tally-le f g h [] = omega arith
   tally-le f g h (x ∷ xs) = omega (arith, h x, tally-le f g h xs)
 
   pub tally-length : (xs : List A) → tally (λ x. 1) xs ≡ length xs
-  unfolding tally
   tally-length [] = refl
   tally-length (x ∷ xs) = omega (arith, tally-length xs)
 
   -- the first and the rest
   pub tally-first : (f : A → ℕ) (xs : List A) (default : A) → 1 ≤ length xs → f (getD xs 0 default) + tally f (drop 1 xs) ≡ tally f xs
-  unfolding tally
   tally-first f [] default h = absurd (omega arith)
   tally-first f (x ∷ xs) default h = refl
 
 pub tally-map : {A B : Type 0} (f : B → ℕ) (g : A → B) (xs : List A) → tally f (map g xs) ≡ tally (λ x. f (g x)) xs
-unfolding tally
 tally-map f g [] = refl
 tally-map f g (x ∷ xs) = ap (λ rest. f (g x) + rest) (tally-map f g xs)
 
@@ -58,7 +52,6 @@ both-second false t = omega arith
 
 -- a list holds its first
 pub held-first : (r : ℕ) (rest : List ℕ) → 1 ≤ tally (is r) (r ∷ rest)
-unfolding tally
 held-first r rest = omega (arith, ap one (eqb-same r))
 
 -- below r + 1 are the numbers below r, and r

@@ -15,6 +15,6 @@ is r q = one (eqb q r)
 
 module _ {A : Type 0} where
   -- what f gives for each member of a list, added up
-  unfoldable pub tally : (A → ℕ) → List A → ℕ
+  abbrev pub tally : (A → ℕ) → List A → ℕ
   tally f [] = 0
   tally f (x ∷ xs) = f x + tally f xs

@@ -20,7 +20,7 @@ recordsOf c (live n r ∷ rest) = recordsOf c rest
 recordsOf c (free n r ∷ rest) = cond (eqb c (down n)) (r ∷ recordsOf c rest) (recordsOf c rest)
 
 records-stand : (c i : ℕ) (line : List Region) → tally (is i) (recordsOf c line) ≡ tally (stands c i) line
-unfolding recordsOf tally
+unfolding recordsOf
 records-stand c i [] = refl
 records-stand c i (live n r ∷ rest) = omega (arith, records-stand c i rest)
 records-stand c i (free n r ∷ rest) = go (eqb c (down n)) (records-stand c i rest)
@@ -31,7 +31,7 @@ records-stand c i (free n r ∷ rest) = go (eqb c (down n)) (records-stand c i r
     go false e = omega arith
 
 records-many : (c : ℕ) (line : List Region) → length (recordsOf c line) ≡ tally (freeOfClass c) line
-unfolding recordsOf tally
+unfolding recordsOf
 records-many c [] = refl
 records-many c (live n r ∷ rest) = omega (arith, records-many c rest)
 records-many c (free n r ∷ rest) = go (eqb c (down n)) (records-many c rest)

@@ -43,7 +43,7 @@ alike n r m q = one (eqb q r && eqb m n)
 -- where one span has record r, and its length is n, that span is struck
 strike-takes : (n r : ℕ) (out : List Span) → tally (ofSpan (numbered r)) out ≤ 1 → 1 ≤ tally (ofSpan (alike n r)) out
     → (weight : ℕ → ℕ → ℕ) → tally (ofSpan weight) (strike r out) + weight n r ≡ tally (ofSpan weight) out
-unfolding tally strike numbered alike
+unfolding strike numbered alike
 strike-takes n r [] h k weight = absurd (omega arith)
 strike-takes n r (x ∷ out) h k weight = go (same? (x .number) r) (same? (x .size) n) (λ p q. strike-takes n r out p q weight)
   where
@@ -78,12 +78,12 @@ return-told size count n r before after l out w told b = strike-takes n r out
 
 module _ (size count : ℕ) where
   pub setup-told : Told [] (setup size count)
-  unfolding Told setup tally
+  unfolding Told setup
   setup-told weight = refl
 
   pub call-told : (c : Call) (l : Ledger) (out : List Span) → WellFormed size count l → Told out l
       → Told (note (event c (answer size count c l .0)) out) (answer size count c l .1)
-  unfolding answer note Told tally
+  unfolding answer note Told
   call-told (Take s) l out w told = go (take-case w s)
     where
       go : TakeCase s l → Told (note (event (Take s) (take s l .0)) out) (take s l .1)
@@ -109,7 +109,6 @@ module _ (size count : ℕ) where
 
 -- ---- the sum
 lengths : (line : List Region) → tally (ofRegion (λ n r. n)) line + tally freeLen line ≡ tally len line
-unfolding tally
 lengths [] = refl
 lengths (live n r ∷ rest) = omega (arith, lengths rest)
 lengths (free n r ∷ rest) = omega (arith, lengths rest)

@@ -15,13 +15,13 @@ use Rattle.ledger.proofs.Apart.{apart-sides, apart-joined, apart-past}
 
 -- ---- the two sides of a region handed back: what a side loses to it
 pub side-len : (side : List Region) → tally len side ≡ tally len (past side) + gap side
-unfolding tally past gap
+unfolding past gap
 side-len [] = refl
 side-len (live n r ∷ rest) = omega arith
 side-len (free n r ∷ rest) = omega arith
 
 pub side-has : (r : ℕ) (side : List Region) → tally (has r) side ≡ tally (has r) (past side) + tally (is r) (owed side)
-unfolding tally past owed
+unfolding past owed
 side-has r [] = refl
 side-has r (live n q ∷ rest) = omega arith
 side-has r (free n q ∷ rest) = omega arith
@@ -30,7 +30,7 @@ module _ (size count : ℕ) where
   pub cut-lined : (s k : ℕ) {before after : List Region} {n r : ℕ} (l : Ledger) → Between before (free n r) after (l .line)
       → s + k ≡ n → 2 ≤ length (l .pile) → Lined size count (l .line) (l .pile)
       → Lined size count (cut s k before n r after l .line) (cut s k before n r after l .pile)
-  unfolding cut tally
+  unfolding cut
   cut-lined s zero {before} {after} {n} {r} l b e two w =
       let sides = apart-sides before (free n r) after (rw (b .line-is) at (w .apart)) in
       record {
@@ -60,7 +60,7 @@ module _ (size count : ℕ) where
   pub merge-lined : {before after : List Region} {n r : ℕ} (l : Ledger) → Between before (live n r) after (l .line)
       → Lined size count (l .line) (l .pile)
       → Lined size count (merge before n r after l .line) (merge before n r after l .pile)
-  unfolding merge tally
+  unfolding merge
   merge-lined {before} {after} {n} {r} l b w =
       let whole = gap before + n + gap after in
       let sides = apart-sides before (live n r) after (rw (b .line-is) at (w .apart)) in
@@ -90,7 +90,7 @@ module _ (size count : ℕ) where
       }
 
   pub setup-lined : 2 ≤ count → Lined size count (setup size count .line) (setup size count .pile)
-  unfolding setup tally
+  unfolding setup
   setup-lined h =
       let one-more : 1 + (count - 1) ≡ count = omega arith in
       record {

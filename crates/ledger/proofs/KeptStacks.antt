@@ -29,7 +29,7 @@ in-its-stack {n = n} {r = r} stacks b w = omega (arith, sum-at b (stands (down n
 
 pub cut-stacked : (s k : ℕ) {before after : List Region} {n r : ℕ} (l : Ledger) → Between before (free n r) after (l .line)
     → Stacked (l .line) (l .stacks) → Stacked (cut s k before n r after l .line) (cut s k before n r after l .stacks)
-unfolding cut tally
+unfolding cut
 cut-stacked s zero {before} {after} {n} {r} l b w = record {
   exactly = λ c i. omega (
     arith,
@@ -55,7 +55,7 @@ cut-stacked s (suc k) {before} {after} {n} {r} l b w =
 -- one side of a region handed back: the stacks lose what the side loses
 pub side-stands : (stacks : ℕ → List ℕ) (side : List Region) → ((c i : ℕ) → tally (stands c i) side ≤ tally (is i) (stacks c))
     → (c i : ℕ) → tally (is i) (unlist side stacks c) + tally (stands c i) side ≡ tally (is i) (stacks c) + tally (stands c i) (past side)
-unfolding tally past unlist
+unfolding past unlist
 side-stands stacks [] h c i = omega arith
 side-stands stacks (live n r ∷ rest) h c i = omega arith
 side-stands stacks (free n r ∷ rest) h c i =
@@ -63,7 +63,7 @@ side-stands stacks (free n r ∷ rest) h c i =
 
 pub merge-stacked : {before after : List Region} {n r : ℕ} (l : Ledger) → Between before (live n r) after (l .line)
     → Stacked (l .line) (l .stacks) → Stacked (merge before n r after l .line) (merge before n r after l .stacks)
-unfolding merge tally
+unfolding merge
 merge-stacked {before} {after} {n} {r} l b w = record {
   exactly = λ c i. omega (
     arith,
@@ -91,5 +91,5 @@ merge-stacked {before} {after} {n} {r} l b w = record {
     without-both = side-stands (unlist before (l .stacks)) after (λ c i. omega (arith, held c i, without-before c i))
 
 pub setup-stacked : (size count : ℕ) → Stacked (setup size count .line) (setup size count .stacks)
-unfolding setup tally
+unfolding setup
 setup-stacked size count = record { exactly = λ c i. tally-onTop (down size) 0 (λ c. []) c i }

@@ -26,7 +26,7 @@ live-of-all line = omega (arith, tally-length line, tally-le liveOne (λ x. 1) a
 -- after a grant two records are not live: two spares, or a spare and the remainder
 cut-at-most : (size count s k n r : ℕ) (before after : List Region) (l : Ledger) → 2 ≤ length (l .pile)
     → WellFormed size count (cut s k before n r after l) → tally liveOne (cut s k before n r after l .line) + 2 ≤ count
-unfolding cut tally
+unfolding cut
 cut-at-most size count s zero n r before after l two w =
     omega (arith, all-records (w .lined), live-of-all (cut s zero before n r after l .line))
 cut-at-most size count s (suc k) n r before after l two w =
@@ -44,7 +44,7 @@ cut-at-most size count s (suc k) n r before after l two w =
 module _ (size count : ℕ) (two : 2 ≤ count) where
   call-at-most : (c : Call) (l : Ledger) → WellFormed size count l → tally liveOne (l .line) + 2 ≤ count
       → tally liveOne (answer size count c l .1 .line) + 2 ≤ count
-  unfolding answer setup tally
+  unfolding answer setup
   call-at-most (Take s) l w h = go (take-case w s)
     where
       go : TakeCase s l → tally liveOne (take s l .1 .line) + 2 ≤ count
@@ -72,5 +72,5 @@ module _ (size count : ℕ) (two : 2 ≤ count) where
       calls-at-most cs (answer size count c l .1) (call-well size count two c l w) (call-at-most c l w h)
 
   pub live-at-most : (l : Ledger) → Reached size count l → tally liveOne (l .line) + 2 ≤ count
-  unfolding setup tally
+  unfolding setup
   live-at-most l h = rw (h .1) (calls-at-most (h .0) (setup size count) (setup-well size count two) (omega arith))

@@ -12,7 +12,7 @@ use Rattle.ledger.proofs.Places.{Between, sum-at}
 module _ (f : Region → ℕ) (nothing-free : (n r : ℕ) → f (free n r) ≡ 0) where
   pub cut-adds : (s k : ℕ) {before after : List Region} {n r : ℕ} (l : Ledger) → Between before (free n r) after (l .line)
       → tally f (cut s k before n r after l .line) ≡ tally f (l .line) + f (live s r)
-  unfolding cut tally
+  unfolding cut
   cut-adds s zero {before} {after} {n} {r} l b =
       omega (arith, tally-reverseAux f before (live s r ∷ after), sum-at b f, nothing-free n r)
   cut-adds s (suc k) {before} {after} {n} {r} l b =
@@ -26,14 +26,14 @@ module _ (f : Region → ℕ) (nothing-free : (n r : ℕ) → f (free n r) ≡ 0
       )
 
   past-same : (side : List Region) → tally f (past side) ≡ tally f side
-  unfolding past tally
+  unfolding past
   past-same [] = refl
   past-same (live n r ∷ rest) = refl
   past-same (free n r ∷ rest) = omega (arith, nothing-free n r)
 
   pub merge-takes : {before after : List Region} {n r : ℕ} (l : Ledger) → Between before (live n r) after (l .line)
       → tally f (merge before n r after l .line) + f (live n r) ≡ tally f (l .line)
-  unfolding merge tally
+  unfolding merge
   merge-takes {before} {after} {n} {r} l b =
       let whole = gap before + n + gap after in
       omega (

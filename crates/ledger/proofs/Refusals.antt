@@ -25,7 +25,6 @@ pub class-in-use : {size count : ℕ} {l : Ledger} {n : ℕ} → size < 2 ^ 32 �
 class-in-use {n = n} small w f = omega (arith, down-most n (omega (arith, at-weighs (f .2) len, w .lined .cover)))
 
 pub stack-not-empty : {size count : ℕ} {l : Ledger} {n : ℕ} → WellFormed size count l → FreeIn n (l .line) → l .stacks (down n) ≢ []
-unfolding tally
 stack-not-empty {l = l} {n = n} w f e =
     let r = f .1 in
     omega (arith, at-weighs (f .2) (stands (down n) r), stands-own n r, w .stacked .exactly (down n) r, ap (tally (is r)) e)

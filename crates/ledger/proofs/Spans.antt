@@ -14,7 +14,6 @@ use Rattle.ledger.proofs.Apart.{apart-end}
 
 -- ---- in any line
 within : {x : Region} {o : ℕ} {line : List Region} → At x o line → o + len x ≤ tally len line
-unfolding tally
 within first = omega arith
 within (later a) = omega (arith, within a)
 
@@ -39,7 +38,7 @@ Holding : ℕ → List Region → Type 0
 Holding a line = (x : Region) × (o : ℕ) × At x o line × (o ≤ a) × (a < o + len x)
 
 holding : (line : List Region) (a : ℕ) → a < tally len line → Holding a line
-unfolding tally Holding
+unfolding Holding
 holding [] a h = absurd (omega arith)
 holding (x ∷ rest) a h = go (below? a (len x)) (holding rest (a - len x))
   where

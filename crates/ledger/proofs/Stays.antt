@@ -22,7 +22,6 @@ data Side (y : Region) (o start : ℕ) (front rest : List Region) : Type 0 where
   behind : (p : ℕ) → o ≡ start + p → At y p rest → Side y o start front rest
 
 side : {y : Region} {o : ℕ} (front rest : List Region) → At y o (reverseAux front rest) → Side y o (tally len front) front rest
-unfolding tally
 side {o = o} [] rest a = behind o (omega arith) a
 side {y} {o} (x ∷ front) rest a = go (side front (x ∷ rest) a)
   where
@@ -37,7 +36,7 @@ side {y} {o} (x ∷ front) rest a = go (side front (x ∷ rest) a)
 -- a live region is not the free neighbour that a merge takes in, before or after
 side-past : {n r o : ℕ} (before rest : List Region) → At (live n r) o (reverseAux before rest)
     → Side (live n r) o (tally len before) (past before) rest
-unfolding past tally
+unfolding past
 side-past [] rest a = side [] rest a
 side-past (live m q ∷ before) rest a = side (live m q ∷ before) rest a
 side-past {n} {r} {o} (free m q ∷ before) rest a = go (side before (free m q ∷ rest) a)

@@ -111,7 +111,7 @@ cut s (suc k) before n r after l =
 
 -- "The offset and record number are the answer." (The stacks of a ledger in order hold free regions only, so 6 is never given.)
 unfoldable pub grant : ℕ → Ledger → Option Spot → Answer × Ledger
-unfolding cut tally
+unfolding cut
 grant s l none = (refused 6, l)
 grant s l (some z) = elim (z .here) [
   | live n r ↦ (refused 6, l)
@@ -201,7 +201,7 @@ highest stacks (suc n) = let lower = highest stacks n in valueOr (stacks n) n lo
 
 -- "with one spare record `storage_report` gives 0 and 0. Otherwise it gives the sum of free lengths and the value of the highest non-empty class"
 unfoldable pub report : Ledger → ℕ × ℕ
-unfolding tally highest
+unfolding highest
 report l = cond (spares l) (tally freeLen (l .line), highest (l .stacks) classesInUse) (0, 0)
 
 -- "`storage_report_full` gives for classes 0 to 255 the value and the number of free regions"

@@ -1,0 +1,43 @@
+-- The rows of specs/Examples.antt, computed. Assumes nothing.
+use mathlib.Core.Path.{refl}
+use lib.Count.{leadingZeros, trailingZeros}
+use Rattle.small_float.specs.Class.{up, value}
+use Rattle.tables.specs.Layout.{word, put, putLink}
+use Rattle.tables.specs.Steps.{insertNodes, joinNodes, insertAt, insert, unlinkAt, unlink, pushPile, popPile}
+use Rattle.tables.specs.Calls.{answerWords, endWords, answersWords}
+use Rattle.tables.specs.Examples.{desk, reporting, withReports, RunOnWords, TwoTakes, NearlyRight, spoiled, Spoiled}
+
+pub nearly-right : NearlyRight
+unfolding answersWords desk up value word put putLink insert insertAt insertNodes joinNodes unlink unlinkAt pushPile popPile
+    leadingZeros trailingZeros
+nearly-right = record {
+  next-top-bin = refl;
+  floor-dropped = refl;
+  top-bit-cleared = refl;
+  pile-top = refl;
+  linked-back = refl;
+  grant-first = refl;
+}
+
+pub run-on-words : RunOnWords
+unfolding answersWords endWords desk reporting withReports up value word put putLink insert insertAt insertNodes joinNodes unlink unlinkAt
+    pushPile popPile leadingZeros trailingZeros
+run-on-words = record { the-run = refl; then-reset = refl }
+
+pub two-takes : TwoTakes
+unfolding endWords desk up word put putLink insert insertAt insertNodes joinNodes unlinkAt popPile trailingZeros
+two-takes = record {
+  size-is = refl;
+  count-is = refl;
+  total-is = refl;
+  off-is = refl;
+  top-is = refl;
+  leaves-are = refl;
+  heads-are = refl;
+  nodes-are = refl;
+  pile-is = refl;
+}
+
+pub spoiled-refused : Spoiled
+unfolding answerWords spoiled up word insert insertAt insertNodes joinNodes putLink popPile trailingZeros
+spoiled-refused = record { too-short = refl; outside = refl; around = refl }

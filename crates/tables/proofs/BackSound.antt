@@ -1,0 +1,206 @@
+-- A hand-back on sound words answers as the ledger, and leaves words that stand for the ledger after it. Assumes nothing.
+use mathlib.Core.Path.{_≡_, refl, ap, _∙_, subst}
+use mathlib.Core.Bool.{Bool, true, false}
+use mathlib.Core.List.{List, [], _∷_, _++_, reverse, reverseAux-eq}
+use Prim.Native.Nat.{ℕ, _+_, _≤_, _<_}
+use native.Mathlib.Nat.{zero-add}
+use native.Mathlib.Omega.{arith}
+use lib.ListN.{length, length-append}
+use borrow.Author.Tests.{lt-ltb, le-ltb}
+use Rattle.basics.specs.Sum.{one, is, tally}
+use Rattle.basics.proofs.Sums.{tally-le, tally-reverseAux}
+use Rattle.small_float.proofs.Rounding.{down-most}
+use Rattle.ledger.specs.Ledger.{Ledger, Region, live, free, len, freeLen, Answer, done, length-is}
+use Rattle.ledger.specs.Ledger.{handBack, merge, gap, owed, past, unlist}
+use Rattle.ledger.specs.WellFormed.{WellFormed, has, stands}
+use Rattle.ledger.proofs.Places.{Between, sum-at}
+use Rattle.ledger.proofs.Find.{at}
+use Rattle.ledger.proofs.KeptStacks.{stands-le, side-stands}
+use Rattle.ledger.proofs.Records.{all-records}
+use Rattle.ledger.proofs.Cases.{LiveCase, is-live, not-live, live-case}
+use Rattle.ledger.proofs.CallsWell.{hand-back-well}
+use Rattle.tables.specs.Layout.{neighborPrev, neighborNext, word}
+use Rattle.tables.specs.Words.{Words, Edition, bounds}
+use Rattle.tables.specs.Steps.{insertAt, insert, unlinkAt, unlink, pushPile}
+use Rattle.tables.specs.HandBack.{Merged, BackPlan, stop, mergedOf, planMerged, planBack, dropIf, merging, doBack, backWords}
+use Rattle.tables.specs.Linked.{first, recs, Reads}
+use Rattle.tables.specs.Sound.{Sound}
+use Rattle.tables.proofs.Linked.{last, linked-split}
+use Rattle.tables.proofs.Lines.{recs-append, Chain, reads-at}
+use Rattle.tables.proofs.Place.{Standing, Gap, placed}
+use Rattle.tables.proofs.SoundOf.{passes, standing, sound-from}
+use Rattle.tables.proofs.SizeSound.{known-idle, known-live}
+use Rattle.tables.proofs.Sides.{opens, one-owed, SideBefore, side-before, SideAfter, side-after}
+
+free-most : (x : Region) → freeLen x ≤ len x
+free-most (live n r) = omega arith
+free-most (free n r) = omega arith
+
+-- what a side loses to the region is free
+side-free : (side : List Region) → tally freeLen side ≡ tally freeLen (past side) + gap side
+unfolding past gap
+side-free [] = refl
+side-free (live n r ∷ rest) = omega arith
+side-free (free n r ∷ rest) = omega arith
+
+module _ (E : Edition) (w : Words) (l : Ledger) (S : Sound E w l) (r : ℕ) where
+  module _ (n : ℕ) (before after : List Region) (place : Between before (live n r) after (l .line)) where
+    -- ---- the two sides
+    reads : Reads (w .nodes) 0 (reverse before) × Reads (w .nodes) (0 + tally len (reverse before)) (live n r ∷ after)
+    reads = reads-at (w .nodes) place (S .reads)
+
+    st : Standing (bounds E w) w (reverse before ++ live n r ∷ after) (l .stacks) (l .pile)
+    st = subst (λ (line : List Region). Standing (bounds E w) w line (l .stacks) (l .pile))
+        (place .line-is ∙ reverseAux-eq before (live n r ∷ after)) (standing E w l S)
+
+    chain : Chain (w .nodes) (E .none) (recs (reverse before)) r
+        × Chain (w .nodes) (last (E .none) (recs (reverse before))) (r ∷ recs after) (E .none)
+    chain = linked-split (word (w .nodes) neighborNext) (word (w .nodes) neighborPrev) (E .none) (recs (reverse before)) (r ∷ recs after) (E .none)
+        (rw (recs-append (reverse before) (live n r ∷ after)) at (st .chain))
+
+    -- what the stacks hold is what stands on the two sides
+    held : (d q : ℕ) → tally (is q) (l .stacks d) ≡ tally (stands d q) before + tally (stands d q) after
+    held d q = omega (arith, S .well .stacked .exactly d q, sum-at place (stands d q))
+
+    in-reverse : (q : ℕ) → tally (has q) (reverse before) ≡ tally (has q) before + 0
+    in-reverse q = tally-reverseAux (has q) before []
+
+    own-gap : Gap (bounds E w) w (reverse before) after (l .stacks) (l .pile) r n
+    own-gap = record {
+      shelf = st .shelf;
+      reads-before = reads .0;
+      reads-after = subst (λ (o : ℕ). Reads (w .nodes) (o + n) after) (zero-add (tally len (reverse before))) (reads .1 .3);
+      a = r;
+      b = r;
+      chain-before = chain .0;
+      chain-after = chain .1 .2;
+      dead = st .dead;
+      once = λ q. omega (arith, S .well .lined .once q, sum-at place (has q), in-reverse q);
+      inside = λ d q. omega (
+        arith,
+        held d q,
+        in-reverse q,
+        tally-le (stands d q) (has q) (stands-le d q) before,
+        tally-le (stands d q) (has q) (stands-le d q) after,
+      );
+    }
+
+    -- the neighbours
+    abbrev p : ℕ
+    p = last (E .none) (recs (reverse before))
+
+    abbrev x : ℕ
+    x = first (recs after) (E .none)
+
+    B : SideBefore E w r n before after (l .stacks) (l .pile) p
+    B = side-before E w r n before after (l .stacks) (l .pile) own-gap (λ d q. omega (arith, held d q)) (omega (arith, reads .1 .0))
+
+    abbrev v : Words
+    v = dropIf (bounds E w) (opens before) p w
+
+    A : SideAfter E w r n v (reverse (past before)) after (unlist before (l .stacks)) (owed before ++ l .pile) (gap before + n) x
+    A = side-after E w r n v (reverse (past before)) after (0 + tally len (reverse before) + n) (unlist before (l .stacks)) (owed before ++ l .pile)
+        (gap before + n) (B .gap-is)
+        (λ d q. omega (arith, held d q, side-stands (l .stacks) before (λ c i. omega (arith, held c i)) d q)) (reads .1 .3) (chain .1 .2)
+
+    -- ---- so the plan finds what the ledger says of the merged region
+    abbrev whole : ℕ
+    whole = gap before + n + gap after
+
+    abbrev merged : Merged
+    merged = record {
+      length = whole;
+      start = tally len (reverse (past before));
+      before = last (E .none) (recs (reverse (past before)));
+      after = first (recs (past after)) (E .none);
+      total = w .total + n;
+    }
+
+    merged-is : mergedOf w r p x (opens before) (opens after) ≡ merged
+    unfolding mergedOf
+    merged-is = λ i. record {
+      length = B .length-is i + reads .1 .1 i + A .length-is i;
+      start = B .start-is i;
+      before = B .link-is i;
+      after = A .link-is i;
+      total = w .total + reads .1 .1 i;
+    }
+
+    module _ (outcome : handBack r l ≡ (done, merge before n r after l)) where
+      next-well : WellFormed (w .size) (w .count) (merge before n r after l)
+      next-well = subst (λ (a : Answer × Ledger). WellFormed (w .size) (w .count) (a .1)) outcome (hand-back-well (w .size) (w .count) r l (S .well))
+
+      -- its numbers are within their limits, the ledger after it being in order
+      next-sum : (f : Region → ℕ) → tally f (merge before n r after l .line) ≡ tally f (past before) + (f (free whole r) + tally f (past after))
+      unfolding merge
+      next-sum f = tally-reverseAux f (past before) (free whole r ∷ past after)
+
+      total-is : w .total + n ≡ tally freeLen (merge before n r after l .line)
+      total-is = omega (arith, S .sum, sum-at place freeLen, next-sum freeLen, side-free before, side-free after)
+
+      whole-most : whole ≤ w .size
+      whole-most = omega (arith, next-well .lined .cover, next-sum len)
+
+      total-most : w .total + n ≤ w .size
+      total-most = omega (arith, next-well .lined .cover, total-is, tally-le freeLen len free-most (merge before n r after l .line))
+
+      off-below : w .off + one (opens before) + one (opens after) < w .count
+      off-below = unfold merge in omega (
+        arith,
+        S .spares,
+        all-records (next-well .lined),
+        next-well .lined .some-region,
+        length-append (owed after) (owed before ++ l .pile),
+        length-append (owed before) (l .pile),
+        one-owed before,
+        one-owed after,
+      )
+
+      plan-is : planBack w r ≡ BackPlan.merge p x (opens before) (opens after) merged
+      plan-is = read ∙ ap (planMerged w p x (opens before) (opens after)) merged-is ∙ passed
+        where
+          read : planBack w r ≡ planMerged w p x (opens before) (opens after) (mergedOf w r p x (opens before) (opens after))
+          read = unfold planBack in rw (known-live E w l S r place, chain .1 .0, chain .1 .1, B .free-is, A .free-is)
+
+          passed : planMerged w p x (opens before) (opens after) merged ≡ BackPlan.merge p x (opens before) (opens after) merged
+          passed = unfold planMerged in rw (
+            le-ltb (w .size) whole whole-most,
+            le-ltb (w .size) (w .total + n) total-most,
+            lt-ltb (w .off + one (opens before) + one (opens after)) (w .count) off-below,
+          )
+
+      -- ---- and the words after it stand for the ledger after it
+      drop-size : (t : Bool) (q : ℕ) (u : Words) → dropIf (bounds E w) t q u .size ≡ u .size
+      unfolding pushPile unlink unlinkAt
+      drop-size true q u = refl
+      drop-size false q u = refl
+
+      drop-count : (t : Bool) (q : ℕ) (u : Words) → dropIf (bounds E w) t q u .count ≡ u .count
+      unfolding pushPile unlink unlinkAt
+      drop-count true q u = refl
+      drop-count false q u = refl
+
+      abbrev u : Words
+      u = dropIf (bounds E w) (opens after) x v
+
+      merging-sound : Sound E (merging (bounds E w) w r p x (opens before) (opens after) merged) (merge before n r after l)
+      unfolding merging merge
+      merging-sound = sound-from E (insert (bounds E w) u whole (merged .start) r (merged .before) (merged .after)) (w .total + n)
+          (merge before n r after l) (w .size) (w .count)
+          (unfold insert insertAt in drop-size (opens after) x v ∙ drop-size (opens before) p w)
+          (unfold insert insertAt in drop-count (opens after) x v ∙ drop-count (opens before) p w)
+          (S .count-low) (S .count-high) (S .size-fits) next-well
+          (rw (reverseAux-eq (past before) (free whole r ∷ past after))
+          (placed (bounds E w) u (reverse (past before)) (past after) (unlist after (unlist before (l .stacks))) (owed after ++ (owed before ++ l .pile))
+          r whole (merged .start) (merged .before) (merged .after) (A .gap-is)
+          (omega (arith, down-most whole (omega (arith, whole-most, S .size-fits)))) refl refl refl))
+          total-is
+
+  -- ---- the call
+  pub back-sound : (backWords E w r .0 ≡ handBack r l .0) × Sound E (backWords E w r .1) (handBack r l .1)
+  unfolding backWords doBack
+  back-sound = rw (passes E w l S (doBack E w r (planBack w r))) (go (live-case (S .well) r))
+    where
+      go : LiveCase r l → (doBack E w r (planBack w r) .0 ≡ handBack r l .0) × Sound E (doBack E w r (planBack w r) .1) (handBack r l .1)
+      go (is-live n before after place e q) = rw (plan-is n before after place e, e) (refl, merging-sound n before after place e)
+      go (not-live h e q) = let idle : planBack w r ≡ stop 5 = unfold planBack in rw (known-idle E w l S r h) in rw (idle, e) (refl, S)

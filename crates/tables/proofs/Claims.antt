@@ -1,0 +1,42 @@
+-- All that specs/Claims.antt claims of the words, for every edition. Assumes nothing.
+use Rattle.tables.specs.Words.{Edition}
+use Rattle.tables.specs.Claims.{Claims}
+use Rattle.tables.proofs.Refusals.{setup-1, setup-2, setup-done, setup-refused, call-6, call-2, not-2}
+use Rattle.tables.proofs.Kept.{refused-kept, grant-inside}
+use Rattle.tables.proofs.NotWritten.{not-written}
+use Rattle.tables.proofs.SetupLeaves.{setup-leaves, setup-pile-leaves, reset-leaves}
+use Rattle.tables.proofs.Unread.{not-read}
+use Rattle.tables.proofs.Circular.{circular-6}
+use Rattle.tables.proofs.Search.{search-finds, highest-found}
+use Rattle.tables.proofs.SetupSound.{setup-sound, reset-sound}
+use Rattle.tables.proofs.OneLedger.{one-ledger}
+use Rattle.tables.proofs.Runs.{call-sound, never-6, alike, demand-2, demand-3}
+
+pub claims : (E : Edition) → Claims E
+claims E = record {
+  setup-1 = setup-1 E;
+  setup-2 = setup-2 E;
+  setup-done = setup-done E;
+  setup-refused = setup-refused E;
+  setup-sound = setup-sound E;
+  setup-leaves = setup-leaves E;
+  setup-pile-leaves = setup-pile-leaves E;
+  reset-leaves = reset-leaves E;
+  reset-sound = reset-sound E;
+  call-6 = call-6 E;
+  call-2 = call-2 E;
+  not-2 = not-2 E;
+  call-sound = call-sound E;
+  never-6 = never-6 E;
+  one-ledger = one-ledger E;
+  alike = alike E;
+  refused-kept = refused-kept E;
+  grant-inside = grant-inside E;
+  circular-6 = circular-6 E;
+  not-written = not-written E;
+  not-read = not-read E;
+  search-finds = search-finds E;
+  highest-found = highest-found E;
+  demand-2 = demand-2 E;
+  demand-3 = demand-3 E;
+}

@@ -1,0 +1,34 @@
+-- A call whose answer and words are the model's keeps all that it promises, and its promise allows one outcome. Assumes nothing.
+use mathlib.Core.Path.{_≡_, sym, ap, subst, _∙_}
+use Rattle.ledger.specs.Ledger.{Answer}
+use Rattle.ledger.specs.Calls.{Call, answer}
+use Rattle.tables.specs.Words.{Words, Edition}
+use Rattle.tables.specs.Calls.{answerWords}
+use Rattle.tables.specs.Sound.{Sound}
+use Rattle.tables.specs.Promise.{Promise}
+use Rattle.tables.proofs.Kept.{refused-kept, grant-inside}
+use Rattle.tables.proofs.Runs.{call-sound}
+
+module _ (E : Edition) (c : Call) (w : Words) {v : Words} {a : Answer} where
+  -- the other three parts follow from the first
+  pub promise : (a, v) ≡ answerWords E c w → Promise E c w v a
+  promise e = record {
+    exact = e;
+    ledger = λ l s.
+        let kept = call-sound E w l s c in
+        (answer-is ∙ kept .0, subst (λ (u : Words). Sound E u (answer (w .size) (w .count) c l .1)) (sym words-are) (kept .1));
+    kept = λ k q. words-are ∙ refused-kept E c w k (sym answer-is ∙ q);
+    inside = λ s o r q g.
+        grant-inside E w s o r (ap (λ (x : Call). answerWords E x w .0) (sym q) ∙ (sym answer-is ∙ g));
+  }
+    where
+      answer-is : a ≡ answerWords E c w .0
+      answer-is = ap (λ (x : Answer × Words). x .0) e
+
+      words-are : v ≡ answerWords E c w .1
+      words-are = ap (λ (x : Answer × Words). x .1) e
+
+-- any two outcomes that a promise allows coincide
+pub one-outcome : (E : Edition) (c : Call) (w : Words) {u v : Words} {a b : Answer} → Promise E c w u a → Promise E c w v b
+    → _≡_ {A = Answer × Words} (a, u) (b, v)
+one-outcome E c w p q = p .exact ∙ sym (q .exact)

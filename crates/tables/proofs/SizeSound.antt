@@ -1,0 +1,56 @@
+-- The words know which records are live: a size query on sound words answers as the ledger. Assumes nothing.
+use mathlib.Core.Path.{_≡_, ap, sym, _∙_}
+use mathlib.Core.Bool.{true, false}
+use mathlib.Core.List.{List, []}
+use Prim.Native.Nat.{ℕ, _<_}
+use native.Mathlib.Omega.{arith}
+use borrow.Author.Tests.{lt-ltb}
+use Rattle.basics.specs.Sum.{one, tally}
+use Rattle.basics.proofs.Decided.{below, beyond, below?}
+use Rattle.basics.proofs.Counts.{is-own, one-below}
+use Rattle.ledger.specs.Ledger.{Ledger, Region, live, free, len, length-is, refused, sizeOf}
+use Rattle.ledger.specs.WellFormed.{has}
+use Rattle.ledger.specs.Claims.{Live}
+use Rattle.ledger.proofs.Places.{Between, sum-at, between-at}
+use Rattle.ledger.proofs.Find.{Found, missing, at, found?}
+use Rattle.ledger.proofs.Cases.{LiveCase, is-live, not-live, live-case}
+use Rattle.tables.specs.Layout.{pick, dataSize, used, word}
+use Rattle.tables.specs.Words.{Words, Edition}
+use Rattle.tables.specs.HandBack.{isLive}
+use Rattle.tables.specs.Questions.{sizeWords}
+use Rattle.tables.specs.Sound.{Sound}
+use Rattle.tables.proofs.Lines.{reads-at}
+use Rattle.tables.proofs.SoundOf.{passes}
+
+module _ (E : Edition) (w : Words) (l : Ledger) (S : Sound E w l) (r : ℕ) where
+  -- ---- a record that is not live: it is spare, or free, or no record
+  unmarked : word (w .nodes) used r ≡ 0 → isLive (w .nodes) (w .count) r ≡ false
+  unfolding isLive
+  unmarked e = elim (below? r (w .count)) [ below k q ↦ rw (q, e) | beyond k q ↦ rw q ]
+
+  pub known-idle : ¬ Live r l → isLive (w .nodes) (w .count) r ≡ false
+  known-idle h = go (found? r (l .line))
+    where
+      go : Found r [] (l .line) → isLive (w .nodes) (w .count) r ≡ false
+      go (missing m z) = elim (below? r (w .count)) [
+        | below k e ↦ unmarked (S .dead r (omega (arith, S .well .lined .once r, ap one e)))
+        | beyond k e ↦ unfold isLive in rw e
+      ]
+      go (at before (free n q) after m b e z) =
+          unmarked (ap (word (w .nodes) used) (sym e) ∙ reads-at (w .nodes) b (S .reads) .1 .2)
+      go (at before (live n q) after m b e z) = absurd (h (n, tally len before, between-at (rw e at b)))
+
+  -- ---- a record that is
+  pub known-live : {n : ℕ} {before after : List Region} → Between before (live n r) after (l .line) → isLive (w .nodes) (w .count) r ≡ true
+  known-live place =
+      let r-below : r < w .count = one-below r (w .count) (omega (arith, S .well .lined .once r, sum-at place (has r), is-own r)) in
+      unfold isLive in rw (lt-ltb r (w .count) r-below, reads-at (w .nodes) place (S .reads) .1 .2)
+
+  pub size-sound : (sizeWords E w r .0 ≡ sizeOf r l) × Sound E (sizeWords E w r .1) l
+  unfolding sizeWords
+  size-sound = rw (passes E w l S (pick (isLive (w .nodes) (w .count) r) (length-is (word (w .nodes) dataSize r)) (refused 5), w))
+      (go (live-case (S .well) r), S)
+    where
+      go : LiveCase r l → pick (isLive (w .nodes) (w .count) r) (length-is (word (w .nodes) dataSize r)) (refused 5) ≡ sizeOf r l
+      go (is-live n before after place e q) = rw (known-live place, q, reads-at (w .nodes) place (S .reads) .1 .1)
+      go (not-live h e q) = rw (known-idle h, q)

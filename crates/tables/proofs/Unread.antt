@@ -1,0 +1,252 @@
+-- No call reads a word beyond those that its count of records needs: on words that agree up to there it gives one answer and leaves words
+-- that agree, sound or not. Assumes nothing.
+use mathlib.Core.Path.{_≡_, refl, ap, ap₂, _∙_, subst}
+use mathlib.Core.Bool.{Bool, true, false}
+use mathlib.Core.List.{List}
+use Prim.Native.Nat.{ℕ, zero, suc, _+_, _-_, _≤_, _<_}
+use native.Mathlib.Omega.{arith}
+use lib.Dec.{ltb, eqb}
+use lib.ListN.{length, getD, replicate}
+use Rattle.basics.specs.Sum.{one}
+use Rattle.basics.proofs.Decided.{Below, below, beyond, below?}
+use Rattle.small_float.specs.Class.{up}
+use Rattle.ledger.specs.Ledger.{Answer, length-is, refused}
+use Rattle.ledger.specs.Calls.{Call, Take, HandBack, SizeOf, Report, FullReport, Reset}
+use Rattle.tables.specs.Layout.{pick, dataOffset, dataSize, binNext, neighborPrev, neighborNext, used, word, nodesNeeded, pileNeeded}
+use Rattle.tables.specs.Words.{Words, Edition, Bounds, bounds}
+use Rattle.tables.specs.Steps.{popPile}
+use Rattle.tables.specs.Gate.{gateOf, gated}
+use Rattle.tables.specs.Setup.{blank, fresh}
+use Rattle.tables.specs.Search.{noClass, findClass}
+use Rattle.tables.specs.Take.{TakePlan, whole, split, planSpare, planRegion, planRecord, planClass, planTake, granting, splitting, doTake}
+use Rattle.tables.specs.HandBack.{BackPlan, merge, isLive, isFree, mergedOf, planMerged, planSides, planNeighbours, planBack, merging, doBack}
+use Rattle.tables.specs.Questions.{reportClass, reportLeaf, reportTop, reportOf, listLength, noted, countFrom, fullAnswer}
+use Rattle.tables.specs.Calls.{answerWords}
+use Rattle.tables.specs.Reach.{Room, AgreeOn, Agree}
+use Rattle.tables.specs.Guards.{TakeGuards, BackGuards}
+use Rattle.tables.proofs.Gate.{room-opens-gate, gated-open}
+use Rattle.tables.proofs.Guards.{take-guards, back-guards, live-low, free-low}
+use Rattle.tables.proofs.Agreeing.{word-agree, withTables, tables-agree, by-tables, insert-agree, unlinkAt-agree, drop-agree}
+use Rattle.tables.proofs.Agreeing.{popPile-agree, total-agree, live-agree, wiped-agree, piled-agree}
+
+-- two outcomes with one answer, whose words agree
+abbrev Alike : ℕ → (a b : Answer × Words) → Type 0
+Alike n a b = (a .0 ≡ b .0) × Agree n (a .1) (b .1)
+
+-- ---- w, and w with other tables that agree with its own
+module _ (w : Words) (nodes pile : List ℕ) (N : AgreeOn (nodesNeeded (w .count)) (w .nodes) nodes)
+    (P : AgreeOn (pileNeeded (w .count)) (w .pile) pile) where
+  abbrev v : Words
+  v = withTables w nodes pile
+
+  reads : (f r : ℕ) → f < 8 → r < w .count → word (w .nodes) f r ≡ word nodes f r
+  reads f r f8 l = word-agree (w .count) N f r f8 l
+
+  -- ---- take: one plan
+  region-same : (s c r z o : ℕ) → planRegion w s c r z o ≡ planRegion v s c r z o
+  unfolding planRegion planSpare
+  region-same s c r z o = elim (below? (w .off) (w .count)) [
+    | below l e ↦ ap (λ (m : ℕ). planned (planSpare w c r o (z - s) m)) (P .same (w .off) l)
+    | beyond l e ↦ rw e refl
+  ]
+    where
+      planned : TakePlan → TakePlan
+      planned p =
+          pick (ltb z s) (TakePlan.stop 6)
+          (pick (ltb (w .size) (o + z)) (TakePlan.stop 6) (pick (ltb (w .total) s) (TakePlan.stop 6) (pick (eqb z s) (whole c r o) p)))
+
+  record-same : (s c r : ℕ) → planRecord w s c r ≡ planRecord v s c r
+  unfolding planRecord
+  record-same s c r = elim (below? r (w .count)) [
+    | below l e ↦ rw e (ap₂ (planRegion w s c r) (reads dataSize r (omega arith) l) (reads dataOffset r (omega arith) l)
+        ∙ region-same s c r (word nodes dataSize r) (word nodes dataOffset r))
+    | beyond l e ↦ rw e refl
+  ]
+
+  take-same : (s : ℕ) → planTake w s ≡ planTake v s
+  unfolding planTake planClass
+  take-same s =
+      ap (λ (p : TakePlan). pick (eqb (w .off) 0) (TakePlan.stop 3) (pick (eqb c noClass) (TakePlan.stop 4) (pick (ltb noClass c) (TakePlan.stop 6) p)))
+      (record-same s c (getD (w .heads) c 0))
+    where
+      c : ℕ
+      c = findClass (w .leaves) (w .top) (up s)
+
+  -- ---- take: the commit
+  agree : Agree (w .count) w v
+  agree = tables-agree (w .count) w N P
+
+  granting-agree : (K : Bounds) (s c r : ℕ) → r < w .count → Agree (w .count) (granting K w s c r) (granting K v s c r)
+  unfolding granting
+  granting-agree K s c r l =
+      rw (reads binNext r (omega arith) l)
+      (live-agree (w .count) (unlinkAt-agree (w .count) agree K c (K .none) (word nodes binNext r)) r s)
+
+  splitting-agree : (K : Bounds) (s c r o rest m : ℕ) → r < w .count
+      → Agree (w .count) (splitting K w s c r o rest m) (splitting K v s c r o rest m)
+  unfolding splitting
+  splitting-agree K s c r o rest m l =
+      rw (reads neighborNext r (omega arith) l)
+      (insert-agree (w .count) (popPile-agree (w .count) (granting-agree K s c r l)) K rest (o + s) m r (word nodes neighborNext r))
+
+  take-by-plan : (E : Edition) (s : ℕ) (p : TakePlan) → TakeGuards w s p → Alike (w .count) (doTake E w s p) (doTake E v s p)
+  unfolding doTake
+  take-by-plan E s (TakePlan.stop k) g = (refl, agree)
+  take-by-plan E s (whole c r o) g =
+      (refl, total-agree (w .count) (granting-agree (bounds E w) s c r (g .record-low)) (w .total - s))
+  take-by-plan E s (split c r o rest m) g =
+      (refl, total-agree (w .count) (splitting-agree (bounds E w) s c r o rest m (g .0 .record-low)) (w .total - s))
+
+  take-alike : (E : Edition) (s : ℕ) → Alike (w .count) (doTake E w s (planTake w s)) (doTake E v s (planTake v s))
+  take-alike E s =
+      subst (λ (p : TakePlan). Alike (w .count) (doTake E w s (planTake w s)) (doTake E v s p)) (take-same s)
+      (take-by-plan E s (planTake w s) (take-guards w s))
+
+  -- ---- hand back: one plan
+  free-same : (q : ℕ) → isFree (w .nodes) (w .count) q ≡ isFree nodes (w .count) q
+  unfolding isFree
+  free-same q = elim (below? q (w .count)) [
+    | below l e ↦ rw (e, reads used q (omega arith) l) refl
+    | beyond l e ↦ rw e refl
+  ]
+
+  live-same : (r : ℕ) → isLive (w .nodes) (w .count) r ≡ isLive nodes (w .count) r
+  unfolding isLive
+  live-same r = elim (below? r (w .count)) [
+    | below l e ↦ rw (e, reads used r (omega arith) l) refl
+    | beyond l e ↦ rw e refl
+  ]
+
+  -- of a neighbour that is merged, the words are read alike
+  if-free : (f q : ℕ) (t : Bool) → f < 8 → (1 ≤ one t → q < w .count) → {d e : ℕ} → d ≡ e
+      → pick t (word (w .nodes) f q) d ≡ pick t (word nodes f q) e
+  if-free f q true f8 l h = reads f q f8 (l (omega arith))
+  if-free f q false f8 l h = h
+
+  module _ (r : ℕ) (r-low : r < w .count) where
+    merged-same : (p x : ℕ) (p-free x-free : Bool) → (1 ≤ one p-free → p < w .count) → (1 ≤ one x-free → x < w .count)
+        → mergedOf w r p x p-free x-free ≡ mergedOf v r p x p-free x-free
+    unfolding mergedOf
+    merged-same p x p-free x-free p-low x-low = λ i. record {
+      length = if-free dataSize p p-free (omega arith) p-low {d = 0} refl i + reads dataSize r (omega arith) r-low i
+          + if-free dataSize x x-free (omega arith) x-low {d = 0} refl i;
+      start = if-free dataOffset p p-free (omega arith) p-low (reads dataOffset r (omega arith) r-low) i;
+      before = if-free neighborPrev p p-free (omega arith) p-low {d = p} refl i;
+      after = if-free neighborNext x x-free (omega arith) x-low {d = x} refl i;
+      total = w .total + reads dataSize r (omega arith) r-low i;
+    }
+
+    neighbours-same : (p x : ℕ) → planNeighbours w r p x ≡ planNeighbours v r p x
+    unfolding planNeighbours planSides planMerged
+    neighbours-same p x =
+        ap (planMerged w p x p-free x-free) (merged-same p x p-free x-free (free-low (w .nodes) (w .count) p) (free-low (w .nodes) (w .count) x))
+        ∙ ap₂ (planSides v r p x) (free-same p) (free-same x)
+      where
+        p-free : Bool
+        p-free = isFree (w .nodes) (w .count) p
+
+        x-free : Bool
+        x-free = isFree (w .nodes) (w .count) x
+
+    links-same : planNeighbours w r (word (w .nodes) neighborPrev r) (word (w .nodes) neighborNext r)
+        ≡ planNeighbours v r (word nodes neighborPrev r) (word nodes neighborNext r)
+    links-same =
+        neighbours-same (word (w .nodes) neighborPrev r) (word (w .nodes) neighborNext r)
+        ∙ ap₂ (planNeighbours v r) (reads neighborPrev r (omega arith) r-low) (reads neighborNext r (omega arith) r-low)
+
+  back-same : (r : ℕ) → planBack w r ≡ planBack v r
+  unfolding planBack
+  back-same r = rw (← (live-same r)) (at (isLive (w .nodes) (w .count) r) refl)
+    where
+      at : (t : Bool) → isLive (w .nodes) (w .count) r ≡ t
+          → pick t (planNeighbours w r (word (w .nodes) neighborPrev r) (word (w .nodes) neighborNext r)) (BackPlan.stop 5)
+          ≡ pick t (planNeighbours v r (word nodes neighborPrev r) (word nodes neighborNext r)) (BackPlan.stop 5)
+      at true e = links-same r (live-low (w .nodes) (w .count) r e)
+      at false e = refl
+
+  -- ---- hand back: the commit
+  back-by-plan : (E : Edition) (r : ℕ) (p : BackPlan) → BackGuards w r p → Alike (w .count) (doBack E w r p) (doBack E v r p)
+  unfolding doBack merging
+  back-by-plan E r (BackPlan.stop k) g = (refl, agree)
+  back-by-plan E r (merge p x p-free x-free m) g = (
+    refl,
+    total-agree (w .count)
+        (insert-agree (w .count)
+        (drop-agree (w .count) (bounds E w) x-free x (g .after-low) (drop-agree (w .count) (bounds E w) p-free p (g .before-low) agree))
+        (bounds E w) (m .length) (m .start) r (m .before) (m .after))
+        (m .total),
+  )
+
+  back-alike : (E : Edition) (r : ℕ) → Alike (w .count) (doBack E w r (planBack w r)) (doBack E v r (planBack v r))
+  back-alike E r =
+      subst (λ (p : BackPlan). Alike (w .count) (doBack E w r (planBack w r)) (doBack E v r p)) (back-same r)
+      (back-by-plan E r (planBack w r) (back-guards w r))
+
+  -- ---- questions
+  size-same : (r : ℕ) → pick (isLive (w .nodes) (w .count) r) (length-is (word (w .nodes) dataSize r)) (refused 5)
+      ≡ pick (isLive nodes (w .count) r) (length-is (word nodes dataSize r)) (refused 5)
+  size-same r = rw (← (live-same r)) (at (isLive (w .nodes) (w .count) r) refl)
+    where
+      at : (t : Bool) → isLive (w .nodes) (w .count) r ≡ t
+          → pick t (length-is (word (w .nodes) dataSize r)) (refused 5) ≡ pick t (length-is (word nodes dataSize r)) (refused 5)
+      at true e = ap length-is (reads dataSize r (omega arith) (live-low (w .nodes) (w .count) r e))
+      at false e = refl
+
+  report-same : reportOf w ≡ reportOf v
+  unfolding reportOf reportTop reportLeaf reportClass
+  report-same = refl
+
+  walk-same : (fuel a k : ℕ) → listLength fuel (w .nodes) (w .count) a k ≡ listLength fuel nodes (w .count) a k
+  unfolding listLength
+  walk-same zero a k = refl
+  walk-same (suc fuel) a k = at (below? a (w .count)) (λ b. walk-same fuel b (k + 1))
+    where
+      at : Below a (w .count) → ((b : ℕ) → listLength fuel (w .nodes) (w .count) b (k + 1) ≡ listLength fuel nodes (w .count) b (k + 1))
+          → listLength (suc fuel) (w .nodes) (w .count) a k ≡ listLength (suc fuel) nodes (w .count) a k
+      at (below l e) onward = rw (e, reads binNext a (omega arith) l) (onward (word nodes binNext a))
+      at (beyond l e) onward = rw e refl
+
+  counts-same : (k c : ℕ) (so-far : List ℕ) → countFrom k w c so-far ≡ countFrom k v c so-far
+  unfolding countFrom
+  counts-same zero c so-far = refl
+  counts-same (suc k) c so-far =
+      λ i. noted (walk-same (w .count) (getD (w .heads) c 0) 0 i) (λ (l : List ℕ). counts-same k (suc c) l i) c so-far
+
+  -- ---- reset
+  fresh-agree : (E : Edition) → Agree (w .count) (fresh E (w .size) (w .count) (w .nodes) (w .pile)) (fresh E (w .size) (w .count) nodes pile)
+  unfolding fresh blank popPile
+  fresh-agree E = insert-agree (w .count) (popPile-agree (w .count) blank-agree) (bounds E w) (w .size) 0 0 (E .none) (E .none)
+    where
+      blank-agree : Agree (w .count) (blank E (w .size) (w .count) (w .nodes) (w .pile)) (blank E (w .size) (w .count) nodes pile)
+      blank-agree =
+          tables-agree (w .count) (blank E (w .size) (w .count) (w .nodes) (w .pile)) (wiped-agree (nodesNeeded (w .count)) (w .count) N)
+          (piled-agree (pileNeeded (w .count)) (w .count) (w .count) P)
+
+-- ---- every call
+module _ (E : Edition) (w : Words) (nodes pile : List ℕ) (N : AgreeOn (nodesNeeded (w .count)) (w .nodes) nodes)
+    (P : AgreeOn (pileNeeded (w .count)) (w .pile) pile) (room : Room E (w .count) (length (w .nodes)) (length (w .pile))) where
+  -- the gate is open for both
+  opened : (a b : Answer × Words) → Alike (w .count) a b
+      → Alike (w .count) (gated (gateOf E w) w a) (gated (gateOf E (withTables w nodes pile)) (withTables w nodes pile) b)
+  opened a b alike = rw (gated-open (gateOf E w) w a (room-opens-gate E w room), gated-open (gateOf E u) u b (room-opens-gate E u room-too)) alike
+    where
+      u : Words
+      u = withTables w nodes pile
+
+      room-too : Room E (w .count) (length nodes) (length pile)
+      room-too = record { count-low = room .count-low; count-high = room .count-high; nodes-room = N .long-too; pile-room = P .long-too }
+
+  call-alike : (c : Call) → Alike (w .count) (answerWords E c w) (answerWords E c (withTables w nodes pile))
+  unfolding answerWords
+  call-alike (Take s) = opened _ _ (take-alike w nodes pile N P E s)
+  call-alike (HandBack r) = opened _ _ (back-alike w nodes pile N P E r)
+  call-alike (SizeOf r) = opened _ _ (size-same w nodes pile N P r, agree w nodes pile N P)
+  call-alike Report = opened _ _ (report-same w nodes pile N P, agree w nodes pile N P)
+  call-alike FullReport = opened _ _ (ap fullAnswer (counts-same w nodes pile N P 256 0 (replicate 256 0)), agree w nodes pile N P)
+  call-alike Reset = opened _ _ (refl, fresh-agree w nodes pile N P E)
+
+pub not-read : (E : Edition) (c : Call) (w v : Words) → Agree (w .count) w v → Room E (w .count) (length (w .nodes)) (length (w .pile))
+    → (answerWords E c w .0 ≡ answerWords E c v .0) × Agree (w .count) (answerWords E c w .1) (answerWords E c v .1)
+not-read E c w v A room =
+    by-tables (w .count) A (λ (u : Words). Alike (w .count) (answerWords E c w) (answerWords E c u))
+    (call-alike E w (v .nodes) (v .pile) (A .nodes-is) (A .pile-is) room c)

@@ -1,0 +1,99 @@
+-- All that is claimed of the words, each claim beneath the sentence that it states: one record, which proofs/Claims.antt makes for every
+-- edition. Assumes nothing.
+use mathlib.Core.Path.{_≡_}
+use mathlib.Core.Logic.{_↔_, _⊎_}
+use mathlib.Core.List.{List, []}
+use Prim.Native.Nat.{ℕ, zero, suc, _+_, _*_, _^_, _≤_, _<_}
+use lib.ListN.{length, getD}
+use Rattle.basics.specs.Extreme.{Greatest, Least}
+use Rattle.ledger.specs.Ledger.{Ledger, granted, done, refused, setup}
+use Rattle.ledger.specs.Calls.{Call, Take, FullReport, Reset, answer, end, answers}
+use Rattle.ledger.specs.Stretch.{Stretch}
+use Rattle.tables.specs.Layout.{binNext, word, nodesNeeded, pileNeeded}
+use Rattle.tables.specs.Words.{Words, Edition}
+use Rattle.tables.specs.Setup.{zeros, setupWords}
+use Rattle.tables.specs.Search.{noClass, findClass, highBit}
+use Rattle.tables.specs.Calls.{answerWords, endWords, answersWords, logWords}
+use Rattle.tables.specs.Sound.{Sound}
+use Rattle.tables.specs.Reach.{Room, KeptBeyond, Agree, LeftAlone}
+
+-- the record that is reached after k steps along a class list
+unfoldable pub along : List ℕ → ℕ → ℕ → ℕ
+along nodes a zero = a
+along nodes a (suc k) = along nodes (word nodes binNext a) k
+
+-- the list of class c goes on for more steps than there are records
+abbrev pub Circular : Words → ℕ → Type 0
+Circular w c = (k : ℕ) → k ≤ w .count → along (w .nodes) (getD (w .heads) c 0) k < w .count
+
+-- a count out of its limits
+abbrev pub BadCount : Edition → ℕ → Type 0
+BadCount E count = (count < 2) ⊎ (E .limit < count)
+
+-- a count within its limits, and a table too short for it
+abbrev pub TooShort : Edition → (count nodes pile : ℕ) → Type 0
+TooShort E count nodes pile =
+    ((2 ≤ count) × (count ≤ E .limit)) × ((nodes < nodesNeeded count) ⊎ (pile < pileNeeded count))
+
+-- class c holds something
+abbrev pub Holds : Ledger → ℕ → Type 0
+Holds l c = ¬ (l .stacks c ≡ [])
+
+pub record Claims (E : Edition) : Type 0 where
+  -- ---- setup: refused as 1 exactly for a bad count, else as 2 exactly for a short table; refused, it gives a head of zeros and leaves the
+  -- tables; accepted, whatever the words held, the tables are sound for the ledger's setup
+  pub setup-1 : (size count : ℕ) (nodes pile : List ℕ) → (setupWords E size count nodes pile .0 ≡ refused 1) ↔ BadCount E count
+  pub setup-2 : (size count : ℕ) (nodes pile : List ℕ)
+      → (setupWords E size count nodes pile .0 ≡ refused 2) ↔ TooShort E count (length nodes) (length pile)
+  pub setup-done : (size count : ℕ) (nodes pile : List ℕ)
+      → (setupWords E size count nodes pile .0 ≡ done) ↔ Room E count (length nodes) (length pile)
+  pub setup-refused : (size count : ℕ) (nodes pile : List ℕ) (k : ℕ) → setupWords E size count nodes pile .0 ≡ refused k
+      → setupWords E size count nodes pile .1 ≡ zeros nodes pile
+  pub setup-sound : (size count : ℕ) (nodes pile : List ℕ) → size < 2 ^ 32 → setupWords E size count nodes pile .0 ≡ done
+      → Sound E (setupWords E size count nodes pile .1) (setup size count)
+  -- which words setup and reset write
+  pub setup-leaves : (size count : ℕ) (nodes pile : List ℕ) (i : ℕ) → LeftAlone count i
+      → getD (setupWords E size count nodes pile .1 .nodes) i 0 ≡ getD nodes i 0
+  pub setup-pile-leaves : (size count : ℕ) (nodes pile : List ℕ) (i : ℕ) → pileNeeded count ≤ i
+      → getD (setupWords E size count nodes pile .1 .pile) i 0 ≡ getD pile i 0
+  pub reset-leaves : (w : Words) (i : ℕ) → LeftAlone (w .count) i → getD (answerWords E Reset w .1 .nodes) i 0 ≡ getD (w .nodes) i 0
+  -- "Reset needs only a good count and lengths, whatever the words held."
+  pub reset-sound : (w : Words) → w .size < 2 ^ 32 → Room E (w .count) (length (w .nodes)) (length (w .pile))
+      → (answerWords E Reset w .0 ≡ done) × Sound E (answerWords E Reset w .1) (setup (w .size) (w .count))
+  -- ---- every other call: 6 for the head's count, then 2 for the lengths, before anything else; behind an open gate never 2
+  pub call-6 : (c : Call) (w : Words) → BadCount E (w .count) → answerWords E c w ≡ (refused 6, w)
+  pub call-2 : (c : Call) (w : Words) → TooShort E (w .count) (length (w .nodes)) (length (w .pile)) → answerWords E c w ≡ (refused 2, w)
+  pub not-2 : (c : Call) (w : Words) → Room E (w .count) (length (w .nodes)) (length (w .pile)) → ¬ (answerWords E c w .0 ≡ refused 2)
+  -- ---- sound tables: "Every call takes sound to sound and never gives 6 there", and answers as the ledger
+  pub call-sound : (w : Words) (l : Ledger) → Sound E w l → (c : Call)
+      → (answerWords E c w .0 ≡ answer (w .size) (w .count) c l .0) × Sound E (answerWords E c w .1) (answer (w .size) (w .count) c l .1)
+  pub never-6 : (w : Words) (l : Ledger) → Sound E w l → (c : Call) → ¬ (answerWords E c w .0 ≡ refused 6)
+  pub one-ledger : (w : Words) (l m : Ledger) → Sound E w l → Sound E w m → l ≡ m
+  pub alike : (w v : Words) (l : Ledger) → Sound E w l → Sound E v l → (cs : List Call) → answersWords E cs w ≡ answersWords E cs v
+  -- ---- any words at all: "A refusal changes no word .. Even from spoiled tables no span outside the store is granted."
+  pub refused-kept : (c : Call) (w : Words) (k : ℕ) → answerWords E c w .0 ≡ refused k → answerWords E c w .1 ≡ w
+  pub grant-inside : (w : Words) (s o r : ℕ) → answerWords E (Take s) w .0 ≡ granted o r → o + s ≤ w .size
+  -- "a circular list ends the full report with 6"
+  pub circular-6 : (w : Words) (c : ℕ) → c < 256 → Circular w c → Room E (w .count) (length (w .nodes)) (length (w .pile))
+      → answerWords E FullReport w .0 ≡ refused 6
+  -- "words beyond them are neither read nor written"
+  pub not-written : (c : Call) (w : Words) → KeptBeyond (w .count) w (answerWords E c w .1)
+  pub not-read : (c : Call) (w v : Words) → Agree (w .count) w v → Room E (w .count) (length (w .nodes)) (length (w .pile))
+      → (answerWords E c w .0 ≡ answerWords E c v .0) × Agree (w .count) (answerWords E c w .1) (answerWords E c v .1)
+  -- ---- the bits: the lowest class that holds something at or above c, and the highest of all
+  pub search-finds : (w : Words) (l : Ledger) → Sound E w l → (c : ℕ)
+      → ((findClass (w .leaves) (w .top) c ≡ noClass) × ((d : ℕ) → c ≤ d → l .stacks d ≡ []))
+      ⊎ Least (λ d. (c ≤ d) × Holds l d) (findClass (w .leaves) (w .top) c)
+  pub highest-found : (w : Words) (l : Ledger) → Sound E w l
+      → ((w .top ≡ 0) × ((d : ℕ) → l .stacks d ≡ []))
+      ⊎ Greatest (λ d. Holds l d) (8 * highBit (w .top) + highBit (getD (w .leaves) (highBit (w .top)) 0))
+  -- ---- runs. Demand 2: "from an accepted setup .., under any calls .., answers and reports .. are proved equal to document 01's plain ledger"
+  pub demand-2 : (size count : ℕ) (nodes pile : List ℕ) → size < 2 ^ 32 → setupWords E size count nodes pile .0 ≡ done → (cs : List Call)
+      → (answersWords E cs (setupWords E size count nodes pile .1) ≡ answers size count cs (setup size count))
+      × Sound E (endWords E cs (setupWords E size count nodes pile .1)) (end size count cs (setup size count))
+  -- Demand 3: after the stretch "every later call, handle numbers and reports included, answers as though the stretch had never been"
+  pub demand-3 : (size count : ℕ) (nodes pile : List ℕ) → size < 2 ^ 32 → setupWords E size count nodes pile .0 ≡ done → (before : List Call)
+      → (cs : List Call) → Stretch [] (logWords E cs (endWords E before (setupWords E size count nodes pile .1)))
+      → (later-calls : List Call)
+      → answersWords E later-calls (endWords E cs (endWords E before (setupWords E size count nodes pile .1)))
+      ≡ answersWords E later-calls (endWords E before (setupWords E size count nodes pile .1))

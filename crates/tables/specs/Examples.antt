@@ -1,0 +1,97 @@
+-- Document 01's run on words, a small store shown whole, rows that catch models which are nearly right, and spoiled words.
+-- All are of the base's edition, on tables that held sevens; proofs/Answers.antt computes them. Assumes nothing.
+use mathlib.Core.Path.{_≡_}
+use Prim.Native.Nat.{ℕ}
+use mathlib.Core.List.{List, [], _∷_}
+use lib.ListN.{set, replicate}
+use Rattle.ledger.specs.Ledger.{Answer, granted, done, length-is, reported, refused}
+use Rattle.ledger.specs.Calls.{Call, Take, HandBack, SizeOf, Report, FullReport, Reset}
+use Rattle.ledger.specs.Runs.{the-calls, the-answers}
+use Rattle.tables.specs.Layout.{dataOffset, dataSize, binNext, put, nodesNeeded, pileNeeded}
+use Rattle.tables.specs.Words.{Words, withNodes}
+use Rattle.tables.specs.Setup.{setupWords}
+use Rattle.tables.specs.Calls.{edition32, answerWords, endWords, answersWords}
+
+unfoldable pub desk : (size count : ℕ) → Words
+unfolding setupWords
+desk size count = setupWords edition32 size count (replicate (nodesNeeded count) 7) (replicate (pileNeeded count) 7) .1
+
+abbrev pub Answering : (size count : ℕ) → List Call → List Answer → Type 0
+Answering size count calls expected = answersWords edition32 calls (desk size count) ≡ expected
+
+-- ---- "Size 100, count 6. Report 100, 96." The ledger's rows, each call followed by a report
+unfoldable pub reporting : List Call → List Call
+reporting [] = []
+reporting (c ∷ cs) = c ∷ Report ∷ reporting cs
+
+unfoldable pub withReports : List (Answer × (ℕ × ℕ)) → List Answer
+withReports [] = []
+withReports (row ∷ rows) = row .0 ∷ reported (row .1 .0) (row .1 .1) ∷ withReports rows
+
+pub record RunOnWords : Type 0 where
+  pub the-run : Answering 100 6 (Report ∷ reporting the-calls) (reported 100 96 ∷ withReports the-answers)
+  -- "The one region now belongs to record 2"; after a reset it is record 0's again
+  pub then-reset : answersWords edition32 (Take 5 ∷ SizeOf 2 ∷ Reset ∷ SizeOf 2 ∷ Take 5 ∷ Report ∷ []) (endWords edition32 the-calls (desk 100 6))
+      ≡ granted 0 2 ∷ length-is 5 ∷ done ∷ refused 5 ∷ granted 0 0 ∷ reported 95 88 ∷ []
+
+-- ---- the words of that store after its first two takes
+abbrev pub none : ℕ
+none = 4294967295
+
+abbrev pub afterTwo : Words
+afterTwo = endWords edition32 (Take 20 ∷ Take 30 ∷ []) (desk 100 6)
+
+pub record TwoTakes : Type 0 where
+  pub size-is : afterTwo .size ≡ 100
+  pub count-is : afterTwo .count ≡ 6
+  pub total-is : afterTwo .total ≡ 50
+  pub off-is : afterTwo .off ≡ 2
+  -- the free region of 50 belongs to class 28: bit 3 of the top word, bit 4 of leaf byte 3, and record 2 on top of the class
+  pub top-is : afterTwo .top ≡ 8
+  pub leaves-are : afterTwo .leaves ≡ set (replicate 32 0) 3 16
+  pub heads-are : afterTwo .heads ≡ set (replicate 256 none) 28 2
+  -- offset, size, list links back and on, neighbours before and after, used, and the word that no call touches
+  pub nodes-are : afterTwo .nodes
+      ≡ 0 ∷ 20 ∷ none ∷ none ∷ none ∷ 1 ∷ 1 ∷ 7
+      ∷ 20 ∷ 30 ∷ none ∷ none ∷ 0 ∷ 2 ∷ 1 ∷ 7
+      ∷ 50 ∷ 50 ∷ none ∷ none ∷ 1 ∷ none ∷ 0 ∷ 7
+      ∷ 7 ∷ 7 ∷ 7 ∷ 7 ∷ 7 ∷ 7 ∷ 0 ∷ 7
+      ∷ 7 ∷ 7 ∷ 7 ∷ 7 ∷ 7 ∷ 7 ∷ 0 ∷ 7
+      ∷ 7 ∷ 7 ∷ 7 ∷ 7 ∷ 7 ∷ 7 ∷ 0 ∷ 7
+      ∷ []
+  -- of these the first three are spare, 3 on top
+  pub pile-is : afterTwo .pile ≡ 5 ∷ 4 ∷ 3 ∷ 2 ∷ 1 ∷ 0 ∷ []
+
+-- ---- "Ways to get it nearly right", and others: each row is the first to differ under one of the edits in must-fail/
+pub record NearlyRight : Type 0 where
+  -- only the first top bin searched: a request of class 1, in top bin 0, is served by a region of class 36, in top bin 4
+  pub next-top-bin : Answering 100 6 (Take 1 ∷ []) (granted 0 0 ∷ [])
+  -- the leaf floor kept after moving up: a request of class 7, leaf 7, is served by a region of class 32, leaf 0
+  pub floor-dropped : Answering 64 4 (Take 7 ∷ []) (granted 0 0 ∷ [])
+  -- the top bit not cleared when its leaf byte falls to 0: the only region is granted whole
+  pub top-bit-cleared : Answering 64 4 (Take 64 ∷ Report ∷ Take 1 ∷ []) (granted 0 0 ∷ reported 0 0 ∷ refused 4 ∷ [])
+  -- the pile index off by one: a remainder takes the record on top
+  pub pile-top : Answering 100 6 (Take 10 ∷ Take 10 ∷ []) (granted 0 0 ∷ granted 10 1 ∷ [])
+  -- the old top's back link not written: of two regions of class 10 the lower is merged away first, and the class is then empty
+  pub linked-back :
+      Answering 100 8
+      (Take 10 ∷ Take 10 ∷ Take 10 ∷ Take 10 ∷ Take 10 ∷ Take 10 ∷ HandBack 0 ∷ HandBack 2 ∷ HandBack 1 ∷ HandBack 4 ∷ Take 10 ∷ [])
+      (granted 0 0 ∷ granted 10 1 ∷ granted 20 2 ∷ granted 30 3 ∷ granted 40 4 ∷ granted 50 5 ∷ done ∷ done ∷ done ∷ done ∷ granted 40 4 ∷ [])
+  -- the remainder linked before the grant: both are of class 36, and the class must keep the remainder
+  pub grant-first : Answering 100 4 (Take 1 ∷ Report ∷ []) (granted 0 0 ∷ reported 99 96 ∷ [])
+
+-- ---- a word of record 0 spoiled in a fresh store: 6, and the words as they came
+unfoldable pub spoiled : (field v : ℕ) → Words
+unfolding desk put
+spoiled field v = withNodes (desk 100 6) (put 0 field v (desk 100 6 .nodes))
+
+abbrev pub RefusedKept : Call → Words → Type 0
+RefusedKept c w = answerWords edition32 c w ≡ (refused 6, w)
+
+pub record Spoiled : Type 0 where
+  -- a length below the request, though its class is not
+  pub too-short : RefusedKept (Take 20) (spoiled dataSize 5)
+  -- an offset from which the length passes the size
+  pub outside : RefusedKept (Take 20) (spoiled dataOffset 1)
+  -- a list that comes back to its own record
+  pub around : RefusedKept FullReport (spoiled binNext 0)

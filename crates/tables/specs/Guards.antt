@@ -1,0 +1,38 @@
+-- What a plan has made sure of when it does not stop: all that its commit relies on. Assumes nothing.
+use mathlib.Core.Bool.{Bool}
+use Prim.Native.Nat.{ℕ, _+_, _≤_, _<_}
+use Rattle.basics.specs.Sum.{one}
+use Rattle.tables.specs.Words.{Words}
+use Rattle.tables.specs.Take.{TakePlan, stop, whole, split}
+use Rattle.tables.specs.HandBack.{BackPlan, merge, Merged}
+
+-- a region of class c and record r, at offset o, is to be granted for s units
+pub record GrantGuards (w : Words) (s c r o : ℕ) : Type 0 where
+  pub class-low : c < 256
+  pub record-low : r < w .count
+  pub inside : o + s ≤ w .size
+  pub enough : s ≤ w .total
+  pub spare : 1 ≤ w .off
+
+-- its remainder is to take record m
+pub record SplitGuards (w : Words) (m : ℕ) : Type 0 where
+  pub top-low : w .off < w .count
+  pub spare-low : m < w .count
+
+abbrev pub TakeGuards : Words → ℕ → TakePlan → Type 0
+TakeGuards w s (TakePlan.stop k) = Unit {0}
+TakeGuards w s (whole c r o) = GrantGuards w s c r o
+TakeGuards w s (split c r o rest m) = GrantGuards w s c r o × SplitGuards w m
+
+-- record r is to be merged with those of its neighbours p and x that are free
+pub record MergeGuards (w : Words) (r p x : ℕ) (p-free x-free : Bool) (m : Merged) : Type 0 where
+  pub record-low : r < w .count
+  pub before-low : 1 ≤ one p-free → p < w .count
+  pub after-low : 1 ≤ one x-free → x < w .count
+  pub length-fits : m .length ≤ w .size
+  pub total-fits : m .total ≤ w .size
+  pub pile-room : w .off + one p-free + one x-free < w .count
+
+abbrev pub BackGuards : Words → ℕ → BackPlan → Type 0
+BackGuards w r (BackPlan.stop k) = Unit {0}
+BackGuards w r (merge p x p-free x-free m) = MergeGuards w r p x p-free x-free m

@@ -1,0 +1,49 @@
+-- Which words a call can reach: those that its count of records needs, and no others. Assumes nothing.
+use mathlib.Core.Path.{_≡_}
+use mathlib.Core.Logic.{_⊎_, _≢_}
+use mathlib.Core.List.{List}
+use Prim.Native.Nat.{ℕ, _%_, _≤_, _<_}
+use lib.ListN.{length, getD}
+use Rattle.tables.specs.Layout.{used, nodesNeeded, pileNeeded}
+use Rattle.tables.specs.Words.{Words, Edition}
+
+-- the count is within its limits and the tables are long enough: what an open gate says
+pub record Room (E : Edition) (count nodes pile : ℕ) : Type 0 where
+  pub count-low : 2 ≤ count
+  pub count-high : count ≤ E .limit
+  pub nodes-room : nodesNeeded count ≤ nodes
+  pub pile-room : pileNeeded count ≤ pile
+
+-- ---- written: for tables of n records, what stays between w and v
+pub record KeptBeyond (n : ℕ) (w v : Words) : Type 0 where
+  pub size-is : v .size ≡ w .size
+  pub count-is : v .count ≡ w .count
+  -- the head's arrays stay arrays of 256 and 32 (a reset makes them anew)
+  pub heads-length : length (w .heads) ≡ 256 → length (v .heads) ≡ 256
+  pub leaves-length : length (w .leaves) ≡ 32 → length (v .leaves) ≡ 32
+  pub nodes-length : length (v .nodes) ≡ length (w .nodes)
+  pub pile-length : length (v .pile) ≡ length (w .pile)
+  pub nodes-beyond : (i : ℕ) → nodesNeeded n ≤ i → getD (v .nodes) i 0 ≡ getD (w .nodes) i 0
+  pub pile-beyond : (i : ℕ) → pileNeeded n ≤ i → getD (v .pile) i 0 ≡ getD (w .pile) i 0
+
+-- ---- read: words with one head whose tables agree as far as n records need, whatever stands beyond
+pub record AgreeOn (k : ℕ) (a b : List ℕ) : Type 0 where
+  pub long : k ≤ length a
+  pub long-too : k ≤ length b
+  pub same : (i : ℕ) → i < k → getD a i 0 ≡ getD b i 0
+
+pub record Agree (n : ℕ) (w v : Words) : Type 0 where
+  pub size-is : w .size ≡ v .size
+  pub count-is : w .count ≡ v .count
+  pub total-is : w .total ≡ v .total
+  pub off-is : w .off ≡ v .off
+  pub top-is : w .top ≡ v .top
+  pub leaves-is : w .leaves ≡ v .leaves
+  pub heads-is : w .heads ≡ v .heads
+  pub nodes-is : AgreeOn (nodesNeeded n) (w .nodes) (v .nodes)
+  pub pile-is : AgreeOn (pileNeeded n) (w .pile) (v .pile)
+
+-- ---- setup and reset: the words of `nodes` that they leave alone, of a table for n records: all but the used words, and record 0's first
+-- seven
+abbrev pub LeftAlone : ℕ → ℕ → Type 0
+LeftAlone n i = (nodesNeeded n ≤ i) ⊎ ((i ≡ 7) ⊎ ((8 ≤ i) × (i % 8 ≢ used)))

@@ -1,0 +1,41 @@
+-- The search for a class, by the two levels of bits: the top word, and the leaf bytes. Assumes nothing.
+use mathlib.Core.List.{List}
+use Prim.Native.Nat.{ℕ, _+_, _*_, _-_, _/_, _%_, _^_}
+use lib.Dec.{ltb, eqb}
+use lib.ListN.{getD}
+use lib.Count.{leadingZeros, trailingZeros}
+use Rattle.tables.specs.Layout.{pick}
+
+-- no class was found; the bits contradict each other
+abbrev pub noClass : ℕ
+noClass = 256
+
+abbrev pub badBits : ℕ
+badBits = 257
+
+-- the lowest set bit of a 32-bit word at or above i; 32 where there is none
+unfoldable pub lowFrom : (m i : ℕ) → ℕ
+lowFrom m i = pick (eqb (m / 2 ^ i) 0) 32 (i + trailingZeros 32 (m / 2 ^ i))
+
+-- the lowest class of top bin t, whose leaf byte is m: a byte of 0 under a set top bit is a contradiction
+unfoldable pub leafLow : (t m : ℕ) → ℕ
+leafLow t m = pick (eqb m 0) badBits (8 * t + trailingZeros 32 m)
+
+-- the lowest class of top bin t, if there is such a bin
+unfoldable pub lowInBin : (leaves : List ℕ) → (t : ℕ) → ℕ
+unfolding leafLow
+lowInBin leaves t = pick (ltb t 32) (leafLow t (getD leaves t 0)) noClass
+
+-- leaf l of top bin t if there is one; otherwise the search goes on at the next top bin, and there from its lowest leaf
+unfoldable pub leafOrAbove : (leaves : List ℕ) → (top t l : ℕ) → ℕ
+unfolding lowInBin lowFrom
+leafOrAbove leaves top t l = pick (ltb l 8) (8 * t + l) (lowInBin leaves (lowFrom top (t + 1)))
+
+-- the lowest class from c on that holds something
+unfoldable pub findClass : (leaves : List ℕ) → (top c : ℕ) → ℕ
+unfolding leafOrAbove lowFrom
+findClass leaves top c = leafOrAbove leaves top (c / 8) (lowFrom (getD leaves (c / 8) 0) (c % 8))
+
+-- the highest set bit of a 32-bit word that is not 0
+unfoldable pub highBit : ℕ → ℕ
+highBit m = 31 - leadingZeros 32 m

@@ -1,0 +1,55 @@
+-- All the words of an allocator: the head's, and the two lent tables'. Assumes nothing.
+use mathlib.Core.List.{List}
+use Prim.Native.Nat.{ℕ, _≤_}
+
+pub record Words : Type 0 where
+  pub size : ℕ  -- size
+  pub count : ℕ  -- max_allocs
+  pub total : ℕ  -- free_storage
+  pub off : ℕ  -- free_offset: the spare records less one
+  pub top : ℕ  -- used_bins_top: bit t is set where leaf byte t is not 0
+  pub leaves : List ℕ  -- used_bins: 32 bytes, bit i of byte t for class 8 t + i
+  pub heads : List ℕ  -- bin_indices: 256 words, the record on top of each class
+  pub nodes : List ℕ  -- nodes, lent: 8 words to a record
+  pub pile : List ℕ  -- free_nodes, lent: one word to a record
+
+-- An edition: the marker of an absent link, and the greatest count of records.
+pub record Edition : Type 0 where
+  pub none : ℕ
+  pub limit : ℕ
+  pub small : limit ≤ none
+
+-- what a step must know: the count of records, and the marker
+pub record Bounds : Type 0 where
+  pub n : ℕ
+  pub none : ℕ
+
+abbrev pub bounds : Edition → Words → Bounds
+bounds E w = record { n = w .count; none = E .none }
+
+-- the same words with other nodes, with another total
+abbrev pub withNodes : Words → List ℕ → Words
+withNodes w nodes = record {
+  size = w .size;
+  count = w .count;
+  total = w .total;
+  off = w .off;
+  top = w .top;
+  leaves = w .leaves;
+  heads = w .heads;
+  nodes = nodes;
+  pile = w .pile;
+}
+
+abbrev pub withTotal : Words → ℕ → Words
+withTotal w total = record {
+  size = w .size;
+  count = w .count;
+  total = total;
+  off = w .off;
+  top = w .top;
+  leaves = w .leaves;
+  heads = w .heads;
+  nodes = w .nodes;
+  pile = w .pile;
+}
