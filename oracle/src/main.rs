@@ -2,6 +2,8 @@
 //! each command, the same bytes on every run.
 
 mod classes;
+mod runs;
+mod speed;
 mod splitmix;
 
 use std::io::{self, BufWriter, Write};
@@ -9,7 +11,9 @@ use std::process::ExitCode;
 
 const USAGE: &str = "\
 usage: oracle COMMAND
-  classes    the size classes: every class with its value, and sizes with their classes";
+  classes    the size classes: every class with its value, and sizes with their classes
+  runs       runs of calls, each with its answer and the report after it
+  speed N    N seeded takes and returns, to be timed";
 
 fn main() -> ExitCode {
     let arguments: Vec<String> = std::env::args().skip(1).collect();
@@ -18,6 +22,10 @@ fn main() -> ExitCode {
 
     let written = match arguments[..] {
         ["classes"] => classes::write(&mut out),
+        ["runs"] => runs::write(&mut out),
+        ["speed", calls] if calls.parse::<u32>().is_ok() => {
+            speed::write(&mut out, calls.parse().unwrap_or_default())
+        }
         _ => {
             eprintln!("{USAGE}");
             return ExitCode::from(2);

@@ -1,58 +1,13 @@
-// Document 01's table of size classes, from the proved functions, and the smallest store of two objects.
+// Document 01 from the proved functions: its run to follow, its table of size classes, and the smallest store of two objects.
+mod classes;
+mod run;
+mod strip;
 mod text;
 
-use small_float::Size;
-use small_float::ext::Smallest;
-
-// The sizes of the table, in its order.
-const SIZES: [u32; 12] = [
-    0,
-    7,
-    8,
-    15,
-    16,
-    17,
-    19,
-    31,
-    1000,
-    65535,
-    4026531840,
-    4294967295,
-];
-
-// A size, its class rounded down and its class rounded up.
-fn print_row(size: u32) {
-    let down = small_float::uint_to_float_round_down(Size(size));
-    let up = small_float::uint_to_float_round_up(Size(size));
-    text::print_column(size, 10);
-    text::print_column(down.0, 6);
-    text::print_column(up.0, 6);
-    text::print(b"\n");
-}
-
-fn print_table() {
-    text::print(b"      size  down    up\n");
-    for i in 0..12 {
-        print_row(SIZES[i]);
-    }
-}
-
-// The smallest store of an object, or the number of the refusal.
-fn print_smallest_store(object: u32) {
-    text::print(b"smallest store of ");
-    text::print_number(object);
-    match small_float::ext::min_allocator_size(Size(object)) {
-        Smallest::Store(store) => {
-            text::print(b": ");
-            text::print_number(store.0);
-        }
-        Smallest::TooLarge => text::print(b": refusal 7"),
-    }
-    text::print(b"\n");
-}
-
 fn main() {
-    print_table();
-    print_smallest_store(17);
-    print_smallest_store(4294967295);
+    run::print_run();
+    text::print(b"\n");
+    classes::print_table();
+    classes::print_smallest_store(17);
+    classes::print_smallest_store(4294967295);
 }

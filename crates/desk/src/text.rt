@@ -23,3 +23,11 @@ pub fn print_column(n: u32, width: usize) {
     print_spaces(count, width);
     print(&digits[..count]);
 }
+
+// A number at the left edge of a column.
+pub fn print_left(n: u32, width: usize) {
+    let mut digits = [0u8; 20];
+    let count = io::decimal(n as u64, &mut digits);
+    print(&digits[..count]);
+    print_spaces(count, width);
+}

@@ -1,9 +1,11 @@
--- What every call promises, in four parts: one record for all of them. Assumes nothing.
+-- What every call promises, in four parts: one record for all of them, and one for setup, which takes no head. Assumes nothing.
 use mathlib.Core.Path.{_≡_}
-use Prim.Native.Nat.{ℕ, _+_, _≤_}
-use Rattle.ledger.specs.Ledger.{Ledger, Answer, granted, refused}
+use mathlib.Core.List.{List}
+use Prim.Native.Nat.{ℕ, _+_, _^_, _≤_, _<_}
+use Rattle.ledger.specs.Ledger.{Ledger, Answer, granted, done, refused, setup}
 use Rattle.ledger.specs.Calls.{Call, Take, answer}
 use Rattle.tables.specs.Words.{Words, Edition}
+use Rattle.tables.specs.Setup.{zeros, setupWords}
 use Rattle.tables.specs.Calls.{answerWords}
 use Rattle.tables.specs.Sound.{Sound}
 
@@ -17,3 +19,11 @@ pub record Promise (E : Edition) (c : Call) (w v : Words) (a : Answer) : Type 0 
   pub kept : (k : ℕ) → a ≡ refused k → v ≡ w
   -- a grant lies inside the store, on any tables
   pub inside : (s o r : ℕ) → c ≡ Take s → a ≡ granted o r → o + s ≤ w .size
+
+-- setup with this size and count, on these tables, answers a and leaves the words v: the same parts, but that no grant is made
+pub record SetupPromise (E : Edition) (size count : ℕ) (nodes pile : List ℕ) (v : Words) (a : Answer) : Type 0 where
+  pub exact : (a, v) ≡ setupWords E size count nodes pile
+  -- accepted, whatever the tables held, they stand for the ledger's setup
+  pub ledger : size < 2 ^ 32 → a ≡ done → Sound E v (setup size count)
+  -- refused, the tables are as they came and the head is one of zeros
+  pub kept : (k : ℕ) → a ≡ refused k → v ≡ zeros nodes pile

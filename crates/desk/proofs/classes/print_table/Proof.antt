@@ -2,8 +2,8 @@
 use Prim.Native.Nat.{_-_}
 use native.Mathlib.Omega.{arith}
 use borrow.Author.Needs.{needs}
-use Rattle.desk.proofs.print_table.Statement.{statement}
-use Rattle.desk.proofs.print_table.Tie as tie
+use Rattle.desk.proofs.classes.print_table.Statement.{statement}
+use Rattle.desk.proofs.classes.print_table.Tie as tie
 
 abbrev Inv-loop : tie.InvT-loop
 Inv-loop i₀ i = Unit {0}

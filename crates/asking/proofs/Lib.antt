@@ -1,0 +1,5 @@
+-- Lists: the walk of a list and the count of all lists, step by step. Columns: the two columns of the full report.
+-- Walk: what a question answers behind an open gate.
+pub mod Lists
+pub mod Columns
+pub mod Walk

@@ -1,0 +1,38 @@
+-- Shut out by the gate, or let in. Assumes nothing.
+use Rattle.ledger.specs.Calls.{Report}
+use Rattle.tables.specs.Questions.{reportClass, reportLeaf, reportTop, reportOf}
+use Rattle.tables.specs.Calls.{edition32}
+use Rattle.tables.proofs.Promise.{promise}
+use Rattle.bins.proofs.GateWalk.{shut-out, opened}
+use Rattle.asking.proofs.Walk.{report-answered}
+use borrow.Author.Needs.{needs}
+use Rattle.asking.proofs.storage_report.Statement.{statement}
+use Rattle.asking.proofs.storage_report.Tie as tie
+
+test-requires : tie.Need-test-requires
+test-requires c κs = search needs
+
+enum-known-why : tie.Need-enum-known-why
+enum-known-why c = search needs
+
+enum-told : tie.Need-enum-told
+enum-told c = search needs
+
+report-requires : tie.Need-report-requires
+report-requires c κs = search needs
+
+returns : tie.Need-returns
+returns c heads =
+    let found = c .before in
+    promise edition32 Report _ (shut-out _ Report (found .before .before .test .ensures) (found .why .given .1))
+
+returns-2 : tie.Need-returns-2
+unfolding reportOf reportTop reportLeaf reportClass
+returns-2 c heads =
+    let told = c .before in
+    promise edition32 Report _
+    (report-answered _ (opened _ (told .before .before .test .ensures) (told .enum-told .given .1)) (c .report .ensures))
+
+pub storage-report-spec : {M : Type 1} → statement M
+storage-report-spec =
+    tie.close (tie.spec test-requires enum-known-why enum-told report-requires returns returns-2)

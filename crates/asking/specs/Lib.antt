@@ -1,0 +1,2 @@
+-- What the questions answer, in the ledger's terms.
+pub mod Answers

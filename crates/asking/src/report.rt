@@ -1,0 +1,67 @@
+// storage_report behind the gate: the highest class that holds something, by leading zeros of the top word, then of its leaf byte.
+ghost use mathlib.Core.Path.{_≡_};
+ghost use Prim.Native.Nat.{_<_};
+ghost use mathlib.Core.List.{[]};
+ghost use Rattle.ledger.specs.Ledger.{reported};
+ghost use Rattle.tables.specs.Questions.{reportClass, reportLeaf, reportTop, reportOf};
+ghost use Rattle.bins.specs.InWords.{wordsOf};
+ghost use Rattle.asking.specs.Answers.{reportAnswerOf};
+use crate::ReportAnswer;
+use crate::StorageReport;
+use answers::Refusal;
+use bins::search;
+use bins::totals::Totals;
+use small_float::Class;
+use small_float::Size;
+
+fn figures(total: u32, largest: Size) -> ReportAnswer
+    ensures { λ a. ⌜ reportAnswerOf a ≡ reported total (largest .0) ⌝ }
+{
+    ReportAnswer::Report(StorageReport {
+        total_free_space: Size(total),
+        largest_free_region: largest,
+    })
+}
+
+// A class that a region can have.
+fn report_class(t: Totals, c: u32) -> ReportAnswer
+    ensures { λ a. ⌜ reportAnswerOf a ≡ reportClass (wordsOf t [] [] [] []) c ⌝ }
+{
+    if c < small_float::CLASSES_IN_USE {
+        return figures(t.free_storage, small_float::float_to_uint(Class(c)));
+    }
+    ReportAnswer::Refused(Refusal::Unsound)
+}
+
+// The highest class of a top bin, whose leaf byte is m.
+fn report_leaf(t: Totals, top: u32, m: u32) -> ReportAnswer
+    requires { ⌜ top < 32 ⌝ }
+    ensures { λ a. ⌜ reportAnswerOf a ≡ reportLeaf (wordsOf t [] [] [] []) top m ⌝ }
+{
+    if m == 0 {
+        return ReportAnswer::Refused(Refusal::Unsound);
+    }
+    report_class(t, 8 * top + search::highest_bit_set(m))
+}
+
+fn report_top(t: Totals, used_bins: &[u8; 32], top: u32) -> ReportAnswer
+    requires { ⌜ top < 32 ⌝ }
+    ensures { λ a. ⌜ reportAnswerOf a ≡ reportTop (wordsOf t [] (now («used_bins» .entry)) [] []) top ⌝ }
+{
+    let i = top as usize;
+    report_leaf(t, top, search::wide(used_bins[i]))
+}
+
+// With one spare record nothing can be taken, and the report says 0 and 0.
+pub fn report(t: Totals, used_bins: &[u8; 32]) -> ReportAnswer
+    ensures { λ a. ⌜ reportAnswerOf a ≡ reportOf (wordsOf t [] (now («used_bins» .entry)) [] []) ⌝ }
+{
+    if t.free_offset == 0 {
+        return figures(0, Size(0));
+    }
+    let top = t.used_bins_top;
+    if top == 0 {
+        return figures(t.free_storage, Size(0));
+    }
+    report_top(t, used_bins, search::highest_bit_set(top))
+}

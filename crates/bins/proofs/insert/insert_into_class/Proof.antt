@@ -1,0 +1,61 @@
+-- The code is `insertAt`: the bits, then the record, then its neighbours, then the top. Assumes nothing.
+use Rattle.tables.specs.Steps.{insertAt}
+use borrow.Author.Needs.{needs}
+use Rattle.bins.proofs.insert.insert_into_class.Statement.{statement}
+use Rattle.bins.proofs.insert.insert_into_class.Tie as tie
+
+mul-old-top : tie.Need-mul-old-top
+mul-old-top c = search needs
+
+element-copy-out-old-top : tie.Need-element-copy-out-old-top
+element-copy-out-old-top c = search needs
+
+mark-requires : tie.Need-mark-requires
+mark-requires c κs = search needs
+
+write-record-requires : tie.Need-write-record-requires
+write-record-requires c κs = search needs
+
+join-neighbors-requires : tie.Need-join-neighbors-requires
+join-neighbors-requires c κs = search needs
+
+mul-bin-indices : tie.Need-mul-bin-indices
+mul-bin-indices c = search needs
+
+element-write-bin-indices : tie.Need-element-write-bin-indices
+element-write-bin-indices c = search needs
+
+with-used-bins-top-requires : tie.Need-with-used-bins-top-requires
+with-used-bins-top-requires c κs = search needs
+
+same-length : tie.Need-same-length
+same-length c = search needs
+
+returns : tie.Need-returns
+unfolding insertAt
+returns c ps =
+    let join = c .before .before .before in
+    let write = join .before .before .before .before in
+    let mark = write .before .before in
+    rw (
+      c .with-used-bins-top .ensures,
+      join .join-neighbors .ensures,
+      write .write-record .ensures,
+      mark .mark .ensures .top-is,
+      mark .mark .ensures .leaves-are,
+    )
+
+pub insert-into-class-spec : {M : Type 1} → statement M
+insert-into-class-spec =
+    tie.close
+    (tie.spec
+    mul-old-top
+    element-copy-out-old-top
+    mark-requires
+    write-record-requires
+    join-neighbors-requires
+    mul-bin-indices
+    element-write-bin-indices
+    with-used-bins-top-requires
+    same-length
+    returns)

@@ -1,0 +1,2 @@
+-- How the code's values make the words of tables/specs.
+pub mod InWords

@@ -1,0 +1,74 @@
+// remove_node_from_bin of the Rust, but for the pile: a record leaves the list of its class.
+ghost use mathlib.Core.Path.{_≡_};
+ghost use Prim.Native.Nat.{ℕ, _<_};
+ghost use mathlib.Core.List.{List};
+ghost use lib.Dec.{ltb};
+ghost use lib.ListN.{set};
+ghost use Rattle.tables.specs.Layout.{pick};
+ghost use Rattle.tables.specs.Steps.{unlinkAt, unlink};
+ghost use Rattle.bins.specs.InWords.{wordsOf, bound, HasRoom, InTable};
+use crate::nodes;
+use crate::totals::Totals;
+use small_float::Size;
+
+// The class's top is the record after the one that leaves, unless one stands before it.
+fn lead(bin_indices: &mut [u32; 256], max_allocs: u32, c: u32, prev: u32, next: u32)
+    requires { ⌜ c < 256 ⌝ }
+    ensures { λ _. ⌜ now («bin_indices» .exit) ≡ pick (ltb prev «max_allocs») (now («bin_indices» .entry)) (set (now («bin_indices» .entry)) c next) ⌝ }
+{
+    if prev < max_allocs {
+        return;
+    }
+    let i = c as usize;
+    bin_indices[i] = next;
+}
+
+// A record of class c leaves its list, where it stands between prev and next.
+pub fn remove_from_class(
+    bin_indices: &mut [u32; 256],
+    used_bins: &mut [u8; 32],
+    nodes: &mut [u32],
+    t: Totals,
+    c: u32,
+    prev: u32,
+    next: u32,
+) -> Totals
+    requires { ⌜ c < 256 ⌝ }
+    requires { ⌜ HasRoom (t .«max_allocs») (now nodes) ⌝ }
+    ensures { λ u. ⌜ ((ps : List ℕ) →
+        wordsOf u (now («bin_indices» .exit)) (now («used_bins» .exit)) (now (nodes .exit)) ps
+        ≡ unlinkAt (bound (t .«max_allocs»))
+        (wordsOf t (now («bin_indices» .entry)) (now («used_bins» .entry)) (now (nodes .entry)) ps) c prev next) ⌝ }
+{
+    let max_allocs = t.max_allocs;
+    let top = crate::bits::unmark(used_bins, t.used_bins_top, max_allocs, c, prev, next);
+    lead(bin_indices, max_allocs, c, prev, next);
+    nodes::put_link(nodes, max_allocs, prev, nodes::BIN_LIST_NEXT, next);
+    nodes::put_link(nodes, max_allocs, next, nodes::BIN_LIST_PREV, prev);
+    t.with_used_bins_top(top)
+}
+
+// A record leaves the list of its class.
+pub fn remove_node_from_bin(
+    bin_indices: &mut [u32; 256],
+    used_bins: &mut [u8; 32],
+    nodes: &mut [u32],
+    t: Totals,
+    node: u32,
+) -> Totals
+    requires { ⌜ InTable node (now nodes) ⌝ }
+    requires { ⌜ HasRoom (t .«max_allocs») (now nodes) ⌝ }
+    ensures { λ u. ⌜ ((ps : List ℕ) →
+        wordsOf u (now («bin_indices» .exit)) (now («used_bins» .exit)) (now (nodes .exit)) ps
+        ≡ unlink (bound (t .«max_allocs»)) (wordsOf t (now («bin_indices» .entry)) (now («used_bins» .entry)) (now (nodes .entry)) ps) node) ⌝ }
+{
+    let class = small_float::uint_to_float_round_down(Size(nodes::word(
+        nodes,
+        node,
+        nodes::DATA_SIZE,
+    )));
+    let c = class.0;
+    let prev = nodes::word(nodes, node, nodes::BIN_LIST_PREV);
+    let next = nodes::word(nodes, node, nodes::BIN_LIST_NEXT);
+    remove_from_class(bin_indices, used_bins, nodes, t, c, prev, next)
+}

@@ -1,0 +1,80 @@
+// The lowest class that holds something, by trailing zeros of a leaf byte, then of the top word; the highest bit, by leading zeros.
+ghost use mathlib.Core.Path.{_≡_};
+ghost use Prim.Native.Nat.{_+_, _<_};
+ghost use Rattle.tables.specs.Search.{lowFrom, leafLow, lowInBin, leafOrAbove, findClass, highBit};
+
+// No class was found; the bits contradict each other.
+pub const NO_CLASS: u32 = 256;
+
+pub const BAD_BITS: u32 = 257;
+
+pub fn wide(x: u8) -> u32
+    ensures { λ r. ⌜ r ≡ x ⌝ }
+{
+    x as u32
+}
+
+// find_lowest_bit_set_after of the Rust: at or after bit i; 32 where there is none.
+fn lowest_bit_set_from(m: u32, i: u32) -> u32
+    requires { ⌜ i < 32 ⌝ }
+    ensures { λ r. ⌜ r ≡ lowFrom m i ⌝ }
+{
+    let rest = m >> i;
+    if rest == 0 {
+        return 32;
+    }
+    i + u32::trailing_zeros(rest)
+}
+
+// The lowest class of top bin t, whose leaf byte is m.
+fn lowest_leaf(t: u32, m: u32) -> u32
+    requires { ⌜ t < 32 ⌝ }
+    ensures { λ r. ⌜ r ≡ leafLow t m ⌝ }
+{
+    if m == 0 {
+        return BAD_BITS;
+    }
+    8 * t + u32::trailing_zeros(m)
+}
+
+fn lowest_in_bin(used_bins: &[u8; 32], t: u32) -> u32
+    ensures { λ r. ⌜ r ≡ lowInBin (now («used_bins» .entry)) t ⌝ }
+{
+    if t < 32 {
+        let i = t as usize;
+        let m = wide(used_bins[i]);
+        return lowest_leaf(t, m);
+    }
+    NO_CLASS
+}
+
+// Leaf l of top bin t, or the lowest leaf of the next top bin that holds something.
+fn leaf_or_above(used_bins: &[u8; 32], used_bins_top: u32, t: u32, l: u32) -> u32
+    requires { ⌜ t < 31 ⌝ }
+    ensures { λ r. ⌜ r ≡ leafOrAbove (now («used_bins» .entry)) «used_bins_top» t l ⌝ }
+{
+    if l < 8 {
+        return 8 * t + l;
+    }
+    lowest_in_bin(used_bins, lowest_bit_set_from(used_bins_top, t + 1))
+}
+
+// The lowest class from c on that holds something.
+pub fn find_class(used_bins: &[u8; 32], used_bins_top: u32, c: u32) -> u32
+    requires { ⌜ c < 248 ⌝ }
+    ensures { λ r. ⌜ r ≡ findClass (now («used_bins» .entry)) «used_bins_top» c ⌝ }
+{
+    let t = c / 8;
+    let i = t as usize;
+    let m = wide(used_bins[i]);
+    let l = lowest_bit_set_from(m, c % 8);
+    leaf_or_above(used_bins, used_bins_top, t, l)
+}
+
+// The highest set bit of a word that is not 0.
+pub fn highest_bit_set(m: u32) -> u32
+    requires { ⌜ 0 < m ⌝ }
+    ensures { λ r. ⌜ (r ≡ highBit m) × (r < 32) ⌝ }
+{
+    31 - u32::leading_zeros(m)
+}

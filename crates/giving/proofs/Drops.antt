@@ -1,0 +1,65 @@
+-- Neighbours dropped one after the other, and the merged region put in: each step is the model's. Assumes nothing.
+use mathlib.Core.Path.{_≡_, refl, ap, _∙_}
+use mathlib.Core.Bool.{Bool, true, false}
+use Prim.Native.Nat.{ℕ, _+_}
+use native.Mathlib.Omega.{arith}
+use Rattle.basics.specs.Sum.{one}
+use Rattle.tables.specs.Words.{Words, Bounds, withTotal}
+use Rattle.tables.specs.Steps.{insert, unlinkAt, unlink, pushPile}
+use Rattle.tables.specs.HandBack.{Merged, dropIf, merging}
+use Rattle.bins.specs.InWords.{bound}
+
+-- a record that leaves its class changes neither the count nor the pile
+pub unlink-count : (K : Bounds) (w : Words) (q : ℕ) → unlink K w q .count ≡ w .count
+unfolding unlink unlinkAt
+unlink-count K w q = refl
+
+pub unlink-off : (K : Bounds) (w : Words) (q : ℕ) → unlink K w q .off ≡ w .off
+unfolding unlink unlinkAt
+unlink-off K w q = refl
+
+-- a free neighbour's record goes onto the pile
+pub drop-count : (K : Bounds) (b : Bool) (q : ℕ) (w : Words) → dropIf K b q w .count ≡ w .count
+unfolding unlink unlinkAt pushPile
+drop-count K true q w = refl
+drop-count K false q w = refl
+
+pub drop-off : (K : Bounds) (b : Bool) (q : ℕ) (w : Words) → dropIf K b q w .off ≡ w .off + one b
+unfolding unlink unlinkAt pushPile
+drop-off K true q w = refl
+drop-off K false q w = omega arith
+
+-- u is w without its neighbour p, where p is free
+module _ (w : Words) {u : Words} (p : ℕ) (p-free : Bool) (first : u ≡ dropIf (bound (w .count)) p-free p w) where
+  pub dropped-count : u .count ≡ w .count
+  dropped-count = ap (λ (z : Words). z .count) first ∙ drop-count (bound (w .count)) p-free p w
+
+  pub dropped-off : u .off ≡ w .off + one p-free
+  dropped-off = ap (λ (z : Words). z .off) first ∙ drop-off (bound (w .count)) p-free p w
+
+  -- v is u without its neighbour x, where x is free
+  pub both-dropped : {v : Words} (x : ℕ) (x-free : Bool) → v ≡ dropIf (bound (u .count)) x-free x u
+      → v ≡ dropIf (bound (w .count)) x-free x (dropIf (bound (w .count)) p-free p w)
+  both-dropped x x-free second =
+      second
+      ∙ ap (λ (n : ℕ). dropIf (bound n) x-free x u) dropped-count
+      ∙ ap (λ (z : Words). dropIf (bound (w .count)) x-free x z) first
+
+-- u is w without either
+module _ (w : Words) {u : Words} (p x : ℕ) (p-free x-free : Bool)
+    (dropped : u ≡ dropIf (bound (w .count)) x-free x (dropIf (bound (w .count)) p-free p w)) where
+  pub both-count : u .count ≡ w .count
+  both-count =
+      ap (λ (z : Words). z .count) dropped
+      ∙ drop-count (bound (w .count)) x-free x (dropIf (bound (w .count)) p-free p w)
+      ∙ drop-count (bound (w .count)) p-free p w
+
+  -- v is u with the merged region put in
+  pub merged : {v : Words} (r : ℕ) (m : Merged) → v ≡ insert (bound (u .count)) u (m .length) (m .start) r (m .before) (m .after)
+      → withTotal v (m .total) ≡ merging (bound (w .count)) w r p x p-free x-free m
+  unfolding merging
+  merged r m put =
+      ap (λ (z : Words). withTotal z (m .total))
+      (put
+      ∙ ap (λ (n : ℕ). insert (bound n) u (m .length) (m .start) r (m .before) (m .after)) both-count
+      ∙ ap (λ (z : Words). insert (bound (w .count)) z (m .length) (m .start) r (m .before) (m .after)) dropped)

@@ -1,0 +1,2 @@
+-- A hand-back's answers as the ledger's, and its plan as the model's.
+pub mod Answers

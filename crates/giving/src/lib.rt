@@ -1,0 +1,88 @@
+// Hand back: `free` of the Rust, in place.
+ghost use mathlib.Core.Path.{_≡_};
+ghost use Prim.Native.Nat.{_≤_};
+ghost use lib.ListN.{length};
+ghost use Rattle.ledger.specs.Calls.{HandBack};
+ghost use Rattle.tables.specs.Calls.{edition32};
+ghost use Rattle.tables.specs.Promise.{Promise};
+ghost use Rattle.bins.specs.InWords.{wordsOf, HasRoom};
+ghost use Rattle.giving.specs.Answers.{answerOf, outcomeOf, handedBack};
+use answers::Handle;
+use answers::Refusal;
+use bins::gate::Gate;
+use bins::totals::Totals;
+use plan::Planned;
+
+mod commit;
+mod plan;
+
+pub enum BackAnswer {
+    Done,
+    Refused(Refusal),
+}
+
+pub struct Returned {
+    pub answer: BackAnswer,
+    pub totals: Totals,
+}
+
+// Behind the gate.
+fn give_back(
+    t: Totals,
+    bin_indices: &mut [u32; 256],
+    used_bins: &mut [u8; 32],
+    nodes: &mut [u32],
+    free_nodes: &mut [u32],
+    r: u32,
+) -> Returned
+    requires { ⌜ HasRoom (t .«max_allocs») (now nodes) ⌝ }
+    requires { ⌜ t .«max_allocs» ≤ length (now «free_nodes») ⌝ }
+    ensures { λ a. ⌜ outcomeOf a (now («bin_indices» .exit)) (now («used_bins» .exit)) (now (nodes .exit)) (now («free_nodes» .exit))
+        ≡ handedBack r (wordsOf t (now («bin_indices» .entry)) (now («used_bins» .entry)) (now (nodes .entry)) (now («free_nodes» .entry))) ⌝ }
+{
+    match plan::plan(t, nodes, r) {
+        Planned::Stop(why) => Returned {
+            answer: BackAnswer::Refused(why),
+            totals: t,
+        },
+        Planned::Merge(prev, next, prev_free, next_free, m) => Returned {
+            answer: BackAnswer::Done,
+            totals: commit::merge(
+                bin_indices,
+                used_bins,
+                nodes,
+                free_nodes,
+                t,
+                r,
+                prev,
+                next,
+                prev_free,
+                next_free,
+                m,
+            ),
+        },
+    }
+}
+
+// A span goes back, or why not. It merges with the free regions beside it and keeps its record.
+pub fn free(
+    t: Totals,
+    bin_indices: &mut [u32; 256],
+    used_bins: &mut [u8; 32],
+    nodes: &mut [u32],
+    free_nodes: &mut [u32],
+    handle: Handle,
+) -> Returned
+    ensures { λ a. ⌜ Promise edition32 (HandBack (handle .0))
+        (wordsOf t (now («bin_indices» .entry)) (now («used_bins» .entry)) (now (nodes .entry)) (now («free_nodes» .entry)))
+        (wordsOf (a .totals) (now («bin_indices» .exit)) (now («used_bins» .exit)) (now (nodes .exit)) (now («free_nodes» .exit)))
+        (answerOf (a .answer)) ⌝ }
+{
+    match bins::gate::test(t.max_allocs, nodes, free_nodes, Refusal::Unsound) {
+        Gate::Shut(why) => Returned {
+            answer: BackAnswer::Refused(why),
+            totals: t,
+        },
+        Gate::Open => give_back(t, bin_indices, used_bins, nodes, free_nodes, handle.0),
+    }
+}

@@ -1,0 +1,111 @@
+// What a hand-back finds, or why not: reads only, so that a refusal changes nothing.
+ghost use mathlib.Core.Path.{_≡_};
+ghost use Prim.Native.Nat.{ℕ, _≤_, _<_};
+ghost use mathlib.Core.List.{List, []};
+ghost use Rattle.basics.specs.Sum.{one};
+ghost use Rattle.tables.specs.HandBack.{planMerged, planBack};
+ghost use Rattle.bins.specs.InWords.{wordsOf, HasRoom};
+ghost use Rattle.giving.specs.Answers.{planOf, Beside, joined};
+use answers::Refusal;
+use bins::nodes;
+use bins::totals::Totals;
+
+// What the merged region will be: its length, its offset, the links to its neighbours, and the free total with it.
+pub struct Merged {
+    pub length: u32,
+    pub start: u32,
+    pub before: u32,
+    pub after: u32,
+    pub total: u32,
+}
+
+pub enum Planned {
+    Stop(Refusal),
+    // the neighbours before and after, whether each is free and so merged, and what comes of it
+    Merge(u32, u32, bool, bool, Merged),
+}
+
+// What one neighbour adds to the merged region: whether it is free, its length, its offset, and the link beyond it.
+pub struct Side {
+    pub free: bool,
+    pub length: u32,
+    pub offset: u32,
+    pub beyond: u32,
+}
+
+// A neighbour that is not free adds nothing: the region keeps its own offset, and the link to it.
+fn beside(nodes: &[u32], max_allocs: u32, link: u32, outward: usize, own_offset: u32) -> Side
+    requires { ⌜ HasRoom «max_allocs» (now nodes) ⌝ }
+    requires { ⌜ outward < 8 ⌝ }
+    ensures { λ s. ⌜ Beside (now (nodes .entry)) «max_allocs» link outward «own_offset» s ⌝ }
+{
+    if bins::live::is_free(nodes, max_allocs, link) {
+        return Side {
+            free: true,
+            length: nodes::word(nodes, link, nodes::DATA_SIZE),
+            offset: nodes::word(nodes, link, nodes::DATA_OFFSET),
+            beyond: nodes::word(nodes, link, outward),
+        };
+    }
+    Side {
+        free: false,
+        length: 0,
+        offset: own_offset,
+        beyond: link,
+    }
+}
+
+fn one_if(b: bool) -> usize
+    ensures { λ v. ⌜ (v ≡ one b) × (v ≤ 1) ⌝ }
+{
+    if b {
+        return 1;
+    }
+    0
+}
+
+// Neither the merged length nor the free total passes the size, and the pile has room. Sums of words are made in usize, which holds them.
+fn plan_merged(t: Totals, prev: u32, next: u32, before: Side, after: Side, own: u32) -> Planned
+    ensures { λ g. ⌜ planOf g
+        ≡ planMerged (wordsOf t [] [] [] []) prev next (before .free) (after .free) (joined (t .«free_storage») own before after) ⌝ }
+{
+    let size = t.size as usize;
+    let length = (before.length as usize) + (own as usize) + (after.length as usize);
+    if size < length {
+        return Planned::Stop(Refusal::Unsound);
+    }
+    let total = (t.free_storage as usize) + (own as usize);
+    if size < total {
+        return Planned::Stop(Refusal::Unsound);
+    }
+    let pile_top = (t.free_offset as usize) + one_if(before.free) + one_if(after.free);
+    if (t.max_allocs as usize) <= pile_top {
+        return Planned::Stop(Refusal::Unsound);
+    }
+    let m = Merged {
+        length: length as u32,
+        start: before.offset,
+        before: before.beyond,
+        after: after.beyond,
+        total: total as u32,
+    };
+    Planned::Merge(prev, next, before.free, after.free, m)
+}
+
+// The record is live, and so on.
+pub fn plan(t: Totals, nodes: &[u32], r: u32) -> Planned
+    requires { ⌜ HasRoom (t .«max_allocs») (now nodes) ⌝ }
+    ensures { λ g. ⌜ ((heads leaves pile : List ℕ) → planOf g ≡ planBack (wordsOf t heads leaves (now (nodes .entry)) pile) r) ⌝ }
+{
+    let max_allocs = t.max_allocs;
+    if bins::live::is_live(nodes, max_allocs, r) {
+        let prev = nodes::word(nodes, r, nodes::NEIGHBOR_PREV);
+        let next = nodes::word(nodes, r, nodes::NEIGHBOR_NEXT);
+        let offset = nodes::word(nodes, r, nodes::DATA_OFFSET);
+        let before = beside(nodes, max_allocs, prev, nodes::NEIGHBOR_PREV, offset);
+        let after = beside(nodes, max_allocs, next, nodes::NEIGHBOR_NEXT, offset);
+        let own = nodes::word(nodes, r, nodes::DATA_SIZE);
+        return plan_merged(t, prev, next, before, after, own);
+    }
+    Planned::Stop(Refusal::NotLive)
+}

@@ -1,0 +1,61 @@
+-- The outcomes of setup and reset, each the model's: started afresh, shut out by the gate, let in. Assumes nothing.
+use mathlib.Core.Path.{_≡_, refl, sym, ap, _∙_}
+use mathlib.Core.List.{List}
+use Prim.Native.Nat.{ℕ}
+use lib.ListN.{length}
+use Rattle.ledger.specs.Ledger.{Answer, done, refused}
+use Rattle.ledger.specs.Calls.{Reset}
+use Rattle.tables.specs.Words.{Words}
+use Rattle.tables.specs.Gate.{gate, gateOf, gated}
+use Rattle.tables.specs.Steps.{insert, popPile}
+use Rattle.tables.specs.Setup.{blank, fresh, zeros, setupWords, resetWords}
+use Rattle.tables.specs.Calls.{edition32, answerWords}
+use Rattle.tables.specs.Reach.{Room}
+use Rattle.tables.proofs.Gate.{gated-open, gated-shut, open-has-room}
+use Rattle.answers.specs.declared.Refusal.{Refusal}
+use Rattle.answers.specs.declared.Refusal.the-variants.{BadCount, TableTooShort, NoSpareRecord, NoRegion, NotLive, Unsound}
+use Rattle.answers.specs.Refusals.{numberOf}
+use Rattle.bins.specs.declared.gate.Gate.{Gate}
+use Rattle.bins.specs.declared.gate.Gate.the-variants.{Open, Shut}
+use Rattle.bins.specs.InWords.{bound, gateNumber}
+
+-- record 0 leaves the blank pile and goes into its class
+pub afresh : (size count : ℕ) (nodes pile : List ℕ) {w v u : Words} → w ≡ blank edition32 size count nodes pile → v ≡ popPile w
+    → u ≡ insert (bound (v .count)) v size 0 0 4294967295 4294967295 → u ≡ fresh edition32 size count nodes pile
+unfolding fresh blank popPile
+afresh size count nodes pile e f g = rw (g, f, e)
+
+-- ---- setup
+-- a gate that is shut with a refusal's number gives that refusal
+refuses : (why : Refusal) (w : Words) (o : Answer × Words) → gated (numberOf why) w o ≡ (refused (numberOf why), w)
+refuses BadCount w o = gated-shut 1 0 w o refl
+refuses TableTooShort w o = gated-shut 2 1 w o refl
+refuses NoSpareRecord w o = gated-shut 3 2 w o refl
+refuses NoRegion w o = gated-shut 4 3 w o refl
+refuses NotLive w o = gated-shut 5 4 w o refl
+refuses Unsound w o = gated-shut 6 5 w o refl
+
+module _ (size count : ℕ) (nodes pile : List ℕ) where
+  abbrev tested : ℕ
+  tested = gate edition32 1 count (length nodes) (length pile)
+
+  pub setup-shut : {g : Gate} {why : Refusal} → gateNumber g ≡ tested → g ≡ Shut why
+      → (refused (numberOf why), zeros nodes pile) ≡ setupWords edition32 size count nodes pile
+  unfolding setupWords
+  setup-shut {why = why} e f =
+      sym (refuses why (zeros nodes pile) _)
+      ∙ ap (λ (n : ℕ). gated n (zeros nodes pile) (done, fresh edition32 size count nodes pile)) (sym (ap gateNumber f) ∙ e)
+
+  pub setup-room : {g : Gate} → gateNumber g ≡ tested → g ≡ Open → Room edition32 count (length nodes) (length pile)
+  setup-room e f = open-has-room edition32 0 count (length nodes) (length pile) (sym e ∙ ap gateNumber f)
+
+  pub setup-open : {g : Gate} {v : Words} → gateNumber g ≡ tested → g ≡ Open → v ≡ fresh edition32 size count nodes pile
+      → (done, v) ≡ setupWords edition32 size count nodes pile
+  unfolding setupWords
+  setup-open e f h = ap (λ (w : Words). (done, w)) h ∙ sym (gated-open tested (zeros nodes pile) _ (sym e ∙ ap gateNumber f))
+
+-- ---- reset, behind an open gate
+pub reset-open : (w : Words) {v : Words} → gateOf edition32 w ≡ 0 → v ≡ fresh edition32 (w .size) (w .count) (w .nodes) (w .pile)
+    → (done, v) ≡ answerWords edition32 Reset w
+unfolding answerWords resetWords
+reset-open w g e = ap (λ (u : Words). (done, u)) e ∙ sym (gated-open (gateOf edition32 w) w _ g)

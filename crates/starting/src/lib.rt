@@ -1,0 +1,167 @@
+// Setup and reset: `with_max_allocs`, `new` and `reset` of the Rust, in place.
+ghost use mathlib.Core.Path.{_≡_};
+ghost use mathlib.Core.List.{List};
+ghost use Prim.Native.Nat.{ℕ, _≤_};
+ghost use lib.ListN.{length};
+ghost use Rattle.ledger.specs.Ledger.{refused};
+ghost use Rattle.ledger.specs.Calls.{Reset};
+ghost use Rattle.tables.specs.Setup.{fresh, zeros};
+ghost use Rattle.tables.specs.Calls.{edition32};
+ghost use Rattle.tables.specs.Promise.{Promise, SetupPromise};
+ghost use Rattle.answers.specs.Refusals.{numberOf};
+ghost use Rattle.bins.specs.InWords.{wordsOf, HasRoom};
+ghost use Rattle.starting.specs.Answers.{answerOf, outcomeOf};
+use answers::Refusal;
+use bins::gate::Gate;
+use bins::nodes::NONE;
+use bins::totals::Totals;
+use small_float::Size;
+
+mod fill;
+pub mod lengths;
+
+pub enum StartAnswer {
+    Done,
+    Refused(Refusal),
+}
+
+pub struct Started {
+    pub answer: StartAnswer,
+    pub totals: Totals,
+}
+
+// The count of records that `new` sets up with: 128 * 1024.
+pub const DEFAULT_MAX_ALLOCS: u32 = 131072;
+
+// Behind the gate: every record spare but record 0, which is one free region of the whole size.
+fn start_afresh(
+    size: u32,
+    max_allocs: u32,
+    bin_indices: &mut [u32; 256],
+    used_bins: &mut [u8; 32],
+    nodes: &mut [u32],
+    free_nodes: &mut [u32],
+) -> Totals
+    requires { ⌜ 2 ≤ «max_allocs» ⌝ }
+    requires { ⌜ HasRoom «max_allocs» (now nodes) ⌝ }
+    requires { ⌜ «max_allocs» ≤ length (now «free_nodes») ⌝ }
+    ensures { λ t. ⌜ wordsOf t (now («bin_indices» .exit)) (now («used_bins» .exit)) (now (nodes .exit)) (now («free_nodes» .exit))
+        ≡ fresh edition32 size «max_allocs» (now (nodes .entry)) (now («free_nodes» .entry)) ⌝ }
+{
+    fill::clear_bin_indices(bin_indices, NONE);
+    fill::clear_used_bins(used_bins);
+    fill::mark_not_live(nodes, max_allocs);
+    fill::pile_up(free_nodes, max_allocs);
+    let blank = Totals {
+        size: size,
+        max_allocs: max_allocs,
+        free_storage: size,
+        free_offset: max_allocs - 1,
+        used_bins_top: 0,
+    };
+    let t = bins::pile::pop(blank);
+    bins::insert::insert_node_into_bin(bin_indices, used_bins, nodes, t, size, 0, 0, NONE, NONE)
+}
+
+// A refused setup leaves a head of zeros, whose count of 0 makes every later call on it a refusal.
+fn leave_zeros(why: Refusal, bin_indices: &mut [u32; 256], used_bins: &mut [u8; 32]) -> Started
+    ensures { λ s. ⌜ ((nodes pile : List ℕ) → outcomeOf s (now («bin_indices» .exit)) (now («used_bins» .exit)) nodes pile
+        ≡ (refused (numberOf why), zeros nodes pile)) ⌝ }
+{
+    fill::clear_bin_indices(bin_indices, 0);
+    fill::clear_used_bins(used_bins);
+    let zeros = Totals {
+        size: 0,
+        max_allocs: 0,
+        free_storage: 0,
+        free_offset: 0,
+        used_bins_top: 0,
+    };
+    Started {
+        answer: StartAnswer::Refused(why),
+        totals: zeros,
+    }
+}
+
+// A store of this size, all of it free, with this many records.
+pub fn with_max_allocs(
+    size: Size,
+    max_allocs: u32,
+    bin_indices: &mut [u32; 256],
+    used_bins: &mut [u8; 32],
+    nodes: &mut [u32],
+    free_nodes: &mut [u32],
+) -> Started
+    ensures { λ s. ⌜ SetupPromise edition32 (size .0) «max_allocs» (now (nodes .entry)) (now («free_nodes» .entry))
+        (wordsOf (s .totals) (now («bin_indices» .exit)) (now («used_bins» .exit)) (now (nodes .exit)) (now («free_nodes» .exit)))
+        (answerOf (s .answer)) ⌝ }
+{
+    match bins::gate::test(max_allocs, nodes, free_nodes, Refusal::BadCount) {
+        Gate::Shut(why) => leave_zeros(why, bin_indices, used_bins),
+        Gate::Open => Started {
+            answer: StartAnswer::Done,
+            totals: start_afresh(
+                size.0,
+                max_allocs,
+                bin_indices,
+                used_bins,
+                nodes,
+                free_nodes,
+            ),
+        },
+    }
+}
+
+// The same with the count of records that the Rust takes by default.
+pub fn new(
+    size: Size,
+    bin_indices: &mut [u32; 256],
+    used_bins: &mut [u8; 32],
+    nodes: &mut [u32],
+    free_nodes: &mut [u32],
+) -> Started
+    ensures { λ s. ⌜ SetupPromise edition32 (size .0) 131072 (now (nodes .entry)) (now («free_nodes» .entry))
+        (wordsOf (s .totals) (now («bin_indices» .exit)) (now («used_bins» .exit)) (now (nodes .exit)) (now («free_nodes» .exit)))
+        (answerOf (s .answer)) ⌝ }
+{
+    with_max_allocs(
+        size,
+        DEFAULT_MAX_ALLOCS,
+        bin_indices,
+        used_bins,
+        nodes,
+        free_nodes,
+    )
+}
+
+// All spans are forgotten: the store is as after setup, whatever the words held.
+pub fn reset(
+    t: Totals,
+    bin_indices: &mut [u32; 256],
+    used_bins: &mut [u8; 32],
+    nodes: &mut [u32],
+    free_nodes: &mut [u32],
+) -> Started
+    ensures { λ s. ⌜ Promise edition32 Reset
+        (wordsOf t (now («bin_indices» .entry)) (now («used_bins» .entry)) (now (nodes .entry)) (now («free_nodes» .entry)))
+        (wordsOf (s .totals) (now («bin_indices» .exit)) (now («used_bins» .exit)) (now (nodes .exit)) (now («free_nodes» .exit)))
+        (answerOf (s .answer)) ⌝ }
+{
+    match bins::gate::test(t.max_allocs, nodes, free_nodes, Refusal::Unsound) {
+        Gate::Shut(why) => Started {
+            answer: StartAnswer::Refused(why),
+            totals: t,
+        },
+        Gate::Open => Started {
+            answer: StartAnswer::Done,
+            totals: start_afresh(
+                t.size,
+                t.max_allocs,
+                bin_indices,
+                used_bins,
+                nodes,
+                free_nodes,
+            ),
+        },
+    }
+}

@@ -1,0 +1,26 @@
+-- A take's answers as the ledger's, and its plan as the model's. Assumes nothing.
+use mathlib.Core.Path.{_≡_}
+use Prim.Native.Nat.{ℕ}
+use Rattle.ledger.specs.Ledger.{Answer, granted, refused}
+use Rattle.tables.specs.Words.{Words}
+use Rattle.tables.specs.Calls.{edition32}
+use Rattle.tables.specs.Take.{TakePlan, stop, whole, split, planTake, doTake}
+use Rattle.answers.specs.Refusals.{numberOf}
+use Rattle.taking.specs.declared.TakeAnswer.{TakeAnswer}
+use Rattle.taking.specs.declared.TakeAnswer.the-variants.{Granted, Refused}
+use Rattle.taking.specs.declared.plan.Planned.{Planned}
+use Rattle.taking.specs.declared.plan.Planned.the-variants.{Stop, Whole, Split}
+
+-- document 01's number and figures for each answer
+abbrev pub answerOf : TakeAnswer → Answer
+answerOf (Granted span) = granted (span .offset) (span .metadata .0)
+answerOf (Refused why) = refused (numberOf why)
+
+abbrev pub planOf : Planned → TakePlan
+planOf (Stop why) = stop (numberOf why)
+planOf (Whole c r o) = whole c r o
+planOf (Split c r o rest m) = split c r o rest m
+
+-- behind the gate: the answer and the words are those of the model's plan
+abbrev pub TakesAsPlanned : ℕ → (w v : Words) → Answer → Type 0
+TakesAsPlanned s w v a = _≡_ {A = Answer × Words} (a, v) (doTake edition32 w s (planTake w s))

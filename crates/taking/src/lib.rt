@@ -1,0 +1,113 @@
+// Take: `allocate` of the Rust, in place.
+ghost use mathlib.Core.Path.{_≡_};
+ghost use Rattle.ledger.specs.Ledger.{granted, refused};
+ghost use Rattle.ledger.specs.Calls.{Take};
+ghost use Prim.Native.Nat.{_≤_};
+ghost use lib.ListN.{length};
+ghost use Rattle.tables.specs.Calls.{edition32};
+ghost use Rattle.tables.specs.Promise.{Promise};
+ghost use Rattle.answers.specs.Refusals.{numberOf};
+ghost use Rattle.bins.specs.InWords.{wordsOf, HasRoom};
+ghost use Rattle.taking.specs.Answers.{answerOf, TakesAsPlanned};
+use answers::Allocation;
+use answers::Handle;
+use answers::Refusal;
+use bins::gate::Gate;
+use bins::totals::Totals;
+use plan::Planned;
+use small_float::Size;
+
+mod commit;
+mod plan;
+
+pub enum TakeAnswer {
+    Granted(Allocation),
+    Refused(Refusal),
+}
+
+pub struct Taken {
+    pub answer: TakeAnswer,
+    pub totals: Totals,
+}
+
+fn refuse(why: Refusal, t: Totals) -> Taken
+    ensures { λ r. ⌜ (answerOf (r .answer) ≡ refused (numberOf why)) × (r .totals ≡ t) ⌝ }
+{
+    Taken {
+        answer: TakeAnswer::Refused(why),
+        totals: t,
+    }
+}
+
+fn grant(offset: u32, r: u32, t: Totals) -> Taken
+    ensures { λ g. ⌜ (answerOf (g .answer) ≡ granted offset r) × (g .totals ≡ t) ⌝ }
+{
+    let span = Allocation {
+        offset: offset,
+        metadata: Handle(r),
+    };
+    Taken {
+        answer: TakeAnswer::Granted(span),
+        totals: t,
+    }
+}
+
+// Behind the gate.
+fn take(
+    t: Totals,
+    bin_indices: &mut [u32; 256],
+    used_bins: &mut [u8; 32],
+    nodes: &mut [u32],
+    free_nodes: &[u32],
+    size: u32,
+) -> Taken
+    requires { ⌜ HasRoom (t .«max_allocs») (now nodes) ⌝ }
+    requires { ⌜ t .«max_allocs» ≤ length (now «free_nodes») ⌝ }
+    ensures { λ a. ⌜ TakesAsPlanned size
+        (wordsOf t (now («bin_indices» .entry)) (now («used_bins» .entry)) (now (nodes .entry)) (now («free_nodes» .entry)))
+        (wordsOf (a .totals) (now («bin_indices» .exit)) (now («used_bins» .exit)) (now (nodes .exit)) (now («free_nodes» .entry)))
+        (answerOf (a .answer)) ⌝ }
+{
+    match plan::plan(t, bin_indices, used_bins, nodes, free_nodes, size) {
+        Planned::Stop(why) => refuse(why, t),
+        Planned::Whole(c, r, offset) => {
+            let u = commit::grant_whole(bin_indices, used_bins, nodes, t, size, c, r, offset);
+            grant(offset, r, u)
+        }
+        Planned::Split(c, r, offset, rest, m) => {
+            let u = commit::grant_part(
+                bin_indices,
+                used_bins,
+                nodes,
+                t,
+                size,
+                c,
+                r,
+                offset,
+                rest,
+                m,
+            );
+            grant(offset, r, u)
+        }
+    }
+}
+
+// A span of this size, or why not.
+pub fn allocate(
+    t: Totals,
+    bin_indices: &mut [u32; 256],
+    used_bins: &mut [u8; 32],
+    nodes: &mut [u32],
+    free_nodes: &[u32],
+    size: Size,
+) -> Taken
+    ensures { λ a. ⌜ Promise edition32 (Take (size .0))
+        (wordsOf t (now («bin_indices» .entry)) (now («used_bins» .entry)) (now (nodes .entry)) (now («free_nodes» .entry)))
+        (wordsOf (a .totals) (now («bin_indices» .exit)) (now («used_bins» .exit)) (now (nodes .exit)) (now («free_nodes» .entry)))
+        (answerOf (a .answer)) ⌝ }
+{
+    match bins::gate::test(t.max_allocs, nodes, free_nodes, Refusal::Unsound) {
+        Gate::Shut(why) => refuse(why, t),
+        Gate::Open => take(t, bin_indices, used_bins, nodes, free_nodes, size.0),
+    }
+}
