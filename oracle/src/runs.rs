@@ -26,68 +26,93 @@ const STORE_SIZES: [u32; 11] = [
 const RECORD_COUNTS: [u32; 6] = [2, 3, 4, 6, 64, 1_024];
 const SEEDS: u64 = 4;
 
-/// Every size with every count, a few times over.
+/// Every size with every count, a few times over: with odd seeds the store is
+/// used up first, with even ones the records are.
 pub fn write(out: &mut impl Write) -> io::Result<()> {
-    // A hand-back of a record that is not live panics, and is asked for on
-    // purpose; the message would only fill the screen.
-    panic::set_hook(Box::new(|_| {}));
+    hush_panics();
     for seed in 1..=SEEDS {
         for size in STORE_SIZES {
             for count in RECORD_COUNTS {
                 let random = SplitMix::new(seed << 48 ^ u64::from(size) << 12 ^ u64::from(count));
-                Run::new(size, count, random).write(out)?;
+                let crowded = seed % 2 == 0;
+                Run::new(size, count, random, crowded).write(out)?;
             }
         }
     }
     Ok(())
 }
 
-struct Run {
+/// A hand-back of a record that is not live panics, and is asked for on purpose;
+/// the message would only fill the screen.
+pub fn hush_panics() {
+    panic::set_hook(Box::new(|_| {}));
+}
+
+pub struct Run {
     allocator: Allocator<u32>,
     size: u32,
     count: u32,
     live: Vec<Allocation<u32>>,
     random: SplitMix,
+    /// Many spans and small ones, so that the records run out before the store does.
+    crowded: bool,
 }
 
 impl Run {
-    fn new(size: u32, count: u32, random: SplitMix) -> Self {
+    pub fn new(size: u32, count: u32, random: SplitMix, crowded: bool) -> Self {
         Self {
             allocator: Allocator::with_max_allocs(size, count),
             size,
             count,
             live: Vec::new(),
             random,
+            crowded,
         }
     }
 
-    fn write(mut self, out: &mut impl Write) -> io::Result<()> {
+    pub fn set_up(&self, out: &mut impl Write) -> io::Result<()> {
         writeln!(out, "n {} {}", self.size, self.count)?;
-        self.report(out)?;
+        self.report(out)
+    }
+
+    fn write(mut self, out: &mut impl Write) -> io::Result<()> {
+        self.set_up(out)?;
         // A large count wants a long run before its records are spread about.
         let calls = if self.count < 64 { 40 } else { 200 };
         for _ in 0..calls {
-            match self.random.below(20) {
-                0..=9 => self.take(out)?,
-                10..=14 => self.hand_back(out)?,
-                15 => self.hand_back_any(out)?,
-                16..=17 => self.size_query(out)?,
-                18 => self.full_report(out)?,
-                _ => self.reset_now_and_then(out)?,
-            }
+            self.call(out)?;
             self.report(out)?;
         }
-        // What is out goes back, in the order of the list, so that every merge is met.
-        while !self.live.is_empty() {
+        // What is out goes back, in an order that is drawn, so that every merge is met.
+        while !self.nothing_out() {
             self.hand_back(out)?;
+            self.report(out)?;
         }
         self.full_report(out)?;
         self.report(out)
     }
 
-    /// A size to ask for: often one that just fits or just does not.
+    /// A call that is drawn; or none, where nothing is out that could go back,
+    /// and two times in three in place of a reset.
+    fn call(&mut self, out: &mut impl Write) -> io::Result<()> {
+        let takes = if self.crowded { 14 } else { 10 };
+        match self.random.below(20) {
+            drawn if drawn < takes => self.take(out),
+            10..=14 => self.hand_back(out),
+            15 => self.hand_back_any(out),
+            16..=17 => self.size_query(out),
+            18 => self.full_report(out),
+            _ => self.reset_now_and_then(out),
+        }
+    }
+
+    /// A size to ask for: often one that just fits or just does not, but in a
+    /// crowded run mostly one that is at most a record's share of the store.
     fn wanted(&mut self) -> u32 {
         let report = self.allocator.storage_report();
+        if self.crowded && self.random.below(32) > 0 {
+            return self.share();
+        }
         match self.random.below(8) {
             0 => 0,
             1 => report.largest_free_region,
@@ -102,8 +127,29 @@ impl Run {
         }
     }
 
+    /// At most a record's share of the store.
+    fn share(&mut self) -> u32 {
+        self.random.below(self.size / self.count + 1)
+    }
+
     fn take(&mut self, out: &mut impl Write) -> io::Result<()> {
         let size = self.wanted();
+        self.take_size(size, out)
+    }
+
+    /// A take that leaves the store room for a span of every record: a share of
+    /// it, or now and then a byte more than there is.
+    pub fn take_small(&mut self, out: &mut impl Write) -> io::Result<()> {
+        let size = if self.random.below(32) > 0 {
+            self.share()
+        } else {
+            let report = self.allocator.storage_report();
+            report.largest_free_region.saturating_add(1)
+        };
+        self.take_size(size, out)
+    }
+
+    fn take_size(&mut self, size: u32, out: &mut impl Write) -> io::Result<()> {
         match self.allocator.allocate(size) {
             Some(span) => {
                 self.live.push(span);
@@ -113,8 +159,8 @@ impl Run {
         }
     }
 
-    fn hand_back(&mut self, out: &mut impl Write) -> io::Result<()> {
-        if self.live.is_empty() {
+    pub fn hand_back(&mut self, out: &mut impl Write) -> io::Result<()> {
+        if self.nothing_out() {
             return Ok(());
         }
         let at = self.random.below(self.live.len() as u32) as usize;
@@ -124,7 +170,7 @@ impl Run {
     }
 
     /// A record number, live or not: one that is not makes the crate panic, before it changes anything.
-    fn hand_back_any(&mut self, out: &mut impl Write) -> io::Result<()> {
+    pub fn hand_back_any(&mut self, out: &mut impl Write) -> io::Result<()> {
         let number = self.any_number();
         let handle = handle(number);
         let allocator = &mut self.allocator;
@@ -136,7 +182,7 @@ impl Run {
         }
     }
 
-    fn size_query(&mut self, out: &mut impl Write) -> io::Result<()> {
+    pub fn size_query(&mut self, out: &mut impl Write) -> io::Result<()> {
         let number = self.any_number();
         let length = self.allocator.allocation_size(handle(number));
         let live = self
@@ -148,7 +194,7 @@ impl Run {
     }
 
     /// The classes that hold something, and how many there are.
-    fn full_report(&mut self, out: &mut impl Write) -> io::Result<()> {
+    pub fn full_report(&mut self, out: &mut impl Write) -> io::Result<()> {
         let report = self.allocator.storage_report_full();
         let mut held = 0;
         for (class, region) in report.free_regions.iter().enumerate() {
@@ -164,12 +210,24 @@ impl Run {
         if self.random.below(3) > 0 {
             return Ok(());
         }
+        self.reset(out)
+    }
+
+    pub fn reset(&mut self, out: &mut impl Write) -> io::Result<()> {
         self.allocator.reset();
         self.live.clear();
         writeln!(out, "z")
     }
 
-    fn report(&self, out: &mut impl Write) -> io::Result<()> {
+    pub fn nothing_out(&self) -> bool {
+        self.live.is_empty()
+    }
+
+    pub fn drawn_below(&mut self, limit: u32) -> u32 {
+        self.random.below(limit)
+    }
+
+    pub fn report(&self, out: &mut impl Write) -> io::Result<()> {
         let report = self.allocator.storage_report();
         writeln!(
             out,
@@ -183,7 +241,7 @@ impl Run {
         match self.random.below(8) {
             0 => self.count,
             1 => self.random.log_uniform().min(u32::MAX - 1),
-            2..=4 if !self.live.is_empty() => {
+            2..=4 if !self.nothing_out() => {
                 let at = self.random.below(self.live.len() as u32) as usize;
                 self.live[at].metadata.into()
             }

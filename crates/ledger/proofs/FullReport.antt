@@ -14,12 +14,12 @@ use Rattle.ledger.specs.Claims.{freeOfClass}
 use Rattle.ledger.proofs.Numbers.{same-length}
 
 -- the records of the free regions of class c, in the line's order
-recordsOf : ℕ → List Region → List ℕ
+unfoldable pub recordsOf : ℕ → List Region → List ℕ
 recordsOf c [] = []
 recordsOf c (live n r ∷ rest) = recordsOf c rest
 recordsOf c (free n r ∷ rest) = cond (eqb c (down n)) (r ∷ recordsOf c rest) (recordsOf c rest)
 
-records-stand : (c i : ℕ) (line : List Region) → tally (is i) (recordsOf c line) ≡ tally (stands c i) line
+pub records-stand : (c i : ℕ) (line : List Region) → tally (is i) (recordsOf c line) ≡ tally (stands c i) line
 unfolding recordsOf
 records-stand c i [] = refl
 records-stand c i (live n r ∷ rest) = omega (arith, records-stand c i rest)
@@ -30,7 +30,7 @@ records-stand c i (free n r ∷ rest) = go (eqb c (down n)) (records-stand c i r
     go true e = omega arith
     go false e = omega arith
 
-records-many : (c : ℕ) (line : List Region) → length (recordsOf c line) ≡ tally (freeOfClass c) line
+pub records-many : (c : ℕ) (line : List Region) → length (recordsOf c line) ≡ tally (freeOfClass c) line
 unfolding recordsOf
 records-many c [] = refl
 records-many c (live n r ∷ rest) = omega (arith, records-many c rest)

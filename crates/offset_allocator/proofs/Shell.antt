@@ -7,6 +7,7 @@ use Rattle.ledger.specs.Calls.{Call}
 use Rattle.tables.specs.Words.{Words}
 use Rattle.tables.specs.Calls.{edition32}
 use Rattle.tables.specs.Promise.{Promise, SetupPromise}
+use Rattle.auditing.specs.Promise.{AuditPromise}
 use Rattle.bins.specs.declared.totals.Totals.{Totals}
 use Rattle.bins.specs.InWords.{wordsOf}
 use Rattle.offset_allocator.specs.declared.head.Head.{Head}
@@ -34,6 +35,14 @@ head-asked {call} h {a = a} {ns = ns} {ps = ps} e p =
     Promise edition32 call (wordsOf x (h .«bin_indices») (h .«used_bins») ns ps) (wordsOf x (h .«bin_indices») (h .«used_bins») ns ps) a)
     e p
 
+-- the audit of a head is that of its words
+pub head-audited : (h : Head) {t : Totals} {a : Answer} {ns ps scratch left : List ℕ} → t ≡ totalsOf h
+    → AuditPromise edition32 (wordsOf t (h .«bin_indices») (h .«used_bins») ns ps) scratch left a
+    → AuditPromise edition32 (headWords h ns ps) scratch left a
+head-audited h {a = a} {ns = ns} {ps = ps} {scratch = scratch} {left = left} e p =
+    subst (λ (x : Totals). AuditPromise edition32 (wordsOf x (h .«bin_indices») (h .«used_bins») ns ps) scratch left a) e p
+
+-- the head that setup makes
 pub setup-out : {size count : ℕ} {nodes pile : List ℕ} {k : Head} {u : Totals} {a : Answer} {leaves heads ns ps : List ℕ}
     → k ≡ headOf u leaves heads → SetupPromise edition32 size count nodes pile (wordsOf u heads leaves ns ps) a
     → SetupPromise edition32 size count nodes pile (headWords k ns ps) a

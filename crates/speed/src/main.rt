@@ -1,6 +1,8 @@
 // A driver to be timed: as many seeded takes and returns as standard input says, in a store of 4 MiB with 16,384 records and sizes from 1 to
 // 2,000. A row of the input is `p CALLS` for the calls in place or `v CALLS` for those by value. The oracle's `speed CALLS` does the same
-// with the Rust, and prints the same two lines; docs/SPEED.md has the figures.
+// with the Rust, and prints the same two lines. `a SETUPS AUDITS` makes so many setups with 131,072 records, then as many audits. docs/SPEED.md has the
+// figures.
+mod audits;
 mod by_value;
 mod draws;
 mod held;
@@ -32,7 +34,15 @@ fn answer(row: Reader) {
             return print_draws(by_value::drive(row.d));
         }
     }
-    io::write_all(STDOUT_FILENO, b"a row is p CALLS or v CALLS\n");
+    if row.fields == 2 {
+        if row.letter == b'a' {
+            return line(b"sound ", audits::drive(row.c, row.d));
+        }
+    }
+    io::write_all(
+        STDOUT_FILENO,
+        b"a row is p CALLS, v CALLS or a SETUPS AUDITS\n",
+    );
 }
 
 // The input's first bytes, enough for a few rows, each answered where it ends.

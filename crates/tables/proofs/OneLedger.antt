@@ -30,7 +30,7 @@ linked-one next prev none p q (x ∷ xs) (y ∷ ys) a b j k e = ap₂ {C = List 
     (sym (j .1) ∙ ap next e ∙ k .1))
 
 -- and the first is the one that has none before it
-first-one : (next prev : ℕ → ℕ) (none y : ℕ) (xs : List ℕ) (q : ℕ) → ((i : ℕ) → In i xs → i ≢ none)
+pub first-one : (next prev : ℕ → ℕ) (none y : ℕ) (xs : List ℕ) (q : ℕ) → ((i : ℕ) → In i xs → i ≢ none)
     → Linked next prev none xs y → In q xs → prev q ≡ none → first xs y ≡ q
 first-one next prev none y xs q some j m e = go (s .front) (s .split-is)
   where

@@ -1,0 +1,68 @@
+-- Each part that is lent is within its table, as long as it is said to be. Assumes nothing.
+use mathlib.Core.Path.{sym}
+use lib.Seq.{length-take-le}
+use native.Mathlib.Omega.{arith}
+use borrow.Author.Needs.{needs}
+use Rattle.audit_replay.proofs.state.audit.Statement.{statement}
+use Rattle.audit_replay.proofs.state.audit.Tie as tie
+
+cast-n : tie.Need-cast-n
+cast-n c = search needs
+
+cast-p : tie.Need-cast-p
+cast-p c = search needs
+
+cast-s : tie.Need-cast-s
+cast-s c = search needs
+
+returns : tie.Need-returns
+returns c = search needs
+
+returns-2 : tie.Need-returns-2
+returns-2 c = search needs
+
+returns-3 : tie.Need-returns-3
+returns-3 c = search needs
+
+slice-aggregate-audit : tie.Need-slice-aggregate-audit
+slice-aggregate-audit c = sym (length-take-le _ _ (omega arith))
+
+slice-aggregate-audit-2 : tie.Need-slice-aggregate-audit-2
+slice-aggregate-audit-2 c = sym (length-take-le _ _ (omega arith))
+
+slice-relend-prefix-audit : tie.Need-slice-relend-prefix-audit
+slice-relend-prefix-audit c = search needs
+
+slice-aggregate-audit-3 : tie.Need-slice-aggregate-audit-3
+slice-aggregate-audit-3 c = sym (length-take-le _ _ (omega arith))
+
+audit-requires : tie.Need-audit-requires
+audit-requires c κs = search needs
+
+number-requires : tie.Need-number-requires
+number-requires c κs = search needs
+
+same-length : tie.Need-same-length
+same-length c = search needs
+
+returns-4 : tie.Need-returns-4
+returns-4 c = search needs
+
+pub audit-spec : {M : Type 1} → statement M
+audit-spec =
+    tie.close
+    (tie.spec
+    cast-n
+    cast-p
+    cast-s
+    returns
+    returns-2
+    returns-3
+    slice-aggregate-audit
+    slice-aggregate-audit-2
+    slice-relend-prefix-audit
+    slice-aggregate-audit-3
+    audit-requires
+    number-requires
+    same-length
+    returns-4)

@@ -1,0 +1,283 @@
+-- All that specs/Claims.antt claims of the audit. Assumes nothing.
+use mathlib.Core.Path.{_≡_, refl, ap, sym, _∙_}
+use mathlib.Core.Logic.{_↔_, _⊎_, inl, inr}
+use mathlib.Core.Bool.{Bool, true, false}
+use mathlib.Core.List.{List, [], _∷_}
+use Prim.Native.Nat.{ℕ, zero, suc, _^_, _≤_, _<_}
+use native.Mathlib.Omega.{arith}
+use lib.ListN.{length, getD}
+use Rattle.basics.proofs.Decided.{Below, below, beyond, below?}
+use Rattle.basics.proofs.Clash.{clash}
+use Rattle.ledger.specs.Ledger.{Ledger, Answer, done, refused, setup}
+use Rattle.ledger.specs.Calls.{Call, SizeOf, Report, FullReport}
+use Rattle.ledger.specs.Stretch.{Question, size-query, short-report, full-report}
+use Rattle.ledger.proofs.Records.{all-records}
+use Rattle.ledger.proofs.CallsWell.{setup-well, call-well}
+use Rattle.tables.specs.Words.{Words, Edition}
+use Rattle.tables.specs.Gate.{gateOf, gated}
+use Rattle.tables.specs.Setup.{setupWords}
+use Rattle.tables.specs.Calls.{answerWords, endWords}
+use Rattle.tables.specs.Sound.{Sound}
+use Rattle.tables.specs.Claims.{BadCount}
+use Rattle.tables.proofs.Gate.{Gated, bad-count, too-short, open-gate, gated?, room-not-bad, room-not-short, short-not-bad}
+use Rattle.tables.proofs.SoundOf.{room-of}
+use Rattle.tables.proofs.SetupSound.{setup-sound}
+use Rattle.tables.proofs.Refusals.{setup-done}
+use Rattle.tables.proofs.Runs.{call-sound}
+use Rattle.auditing.specs.Scratch.{cleared}
+use Rattle.auditing.specs.Audit.{wordsAreSound, verdict, behindGate, gatedAudit, auditWords}
+use Rattle.auditing.specs.Claims.{OfHead, SomeLedger, AuditRoom, AuditShort, Claims}
+use Rattle.auditing.proofs.Cleared.{cleared-length, cleared-low, cleared-high, none-marked}
+use Rattle.auditing.proofs.YesSound.{yes-sound}
+use Rattle.auditing.proofs.SoundYes.{sound-yes}
+
+-- ---- the audit by cases: shut out by the count, by a length, or let in to the tests
+data Audited (E : Edition) (w : Words) (scratch : List ℕ) : Type 0 where
+  by-count : BadCount E (w .count) → auditWords E w scratch ≡ (refused 6, scratch) → Audited E w scratch
+  by-length : AuditShort E w scratch → auditWords E w scratch ≡ (refused 2, scratch) → Audited E w scratch
+  tested : AuditRoom E w scratch
+      → auditWords E w scratch ≡ (verdict (wordsAreSound E w (cleared (w .count) scratch)), cleared (w .count) scratch)
+      → Audited E w scratch
+
+audited? : (E : Edition) (w : Words) (scratch : List ℕ) → Audited E w scratch
+unfolding auditWords gatedAudit gateOf behindGate
+audited? E w scratch =
+    go (gated? E 6 (w .count) (length (w .nodes)) (length (w .pile))) (below? (length scratch) (w .count))
+  where
+    go : Gated E 6 (w .count) (length (w .nodes)) (length (w .pile)) → Below (length scratch) (w .count) → Audited E w scratch
+    go (bad-count h e) b = by-count h (rw e)
+    go (too-short h e) b = by-length (inl h) (rw e)
+    go (open-gate h e) (below l t) = by-length (inr (h, l)) (rw (e, t))
+    go (open-gate h e) (beyond l t) = tested record { tables-room = h; scratch-room = l } (rw (e, t))
+
+module _ (E : Edition) (w : Words) (scratch : List ℕ) where
+  answer-is : {a : Answer} {s : List ℕ} → auditWords E w scratch ≡ (a, s) → auditWords E w scratch .0 ≡ a
+  answer-is e = ap (λ (p : Answer × List ℕ). p .0) e
+
+  scratch-is : {a : Answer} {s : List ℕ} → auditWords E w scratch ≡ (a, s) → auditWords E w scratch .1 ≡ s
+  scratch-is e = ap (λ (p : Answer × List ℕ). p .1) e
+
+  -- the three are apart
+  short-not-count : AuditShort E w scratch → BadCount E (w .count) → ⊥
+  short-not-count (inl s) b = short-not-bad E (w .count) (length (w .nodes)) (length (w .pile)) s b
+  short-not-count (inr s) b = room-not-bad E (w .count) (length (w .nodes)) (length (w .pile)) (s .0) b
+
+  room-not-count : AuditRoom E w scratch → BadCount E (w .count) → ⊥
+  room-not-count r b = room-not-bad E (w .count) (length (w .nodes)) (length (w .pile)) (r .tables-room) b
+
+  room-long : AuditRoom E w scratch → AuditShort E w scratch → ⊥
+  room-long r (inl s) = room-not-short E (w .count) (length (w .nodes)) (length (w .pile)) (r .tables-room) s
+  room-long r (inr s) = omega (arith, r .scratch-room, s .1)
+
+  -- ---- so each case is known by its cause
+  pub at-bad-count : BadCount E (w .count) → auditWords E w scratch ≡ (refused 6, scratch)
+  at-bad-count b = elim (audited? E w scratch) [
+    | by-count h e ↦ e
+    | by-length h e ↦ absurd (short-not-count h b)
+    | tested h e ↦ absurd (room-not-count h b)
+  ]
+
+  pub at-short : AuditShort E w scratch → auditWords E w scratch ≡ (refused 2, scratch)
+  at-short s = elim (audited? E w scratch) [
+    | by-count h e ↦ absurd (short-not-count s h)
+    | by-length h e ↦ e
+    | tested h e ↦ absurd (room-long h s)
+  ]
+
+  at-room : AuditRoom E w scratch
+      → auditWords E w scratch ≡ (verdict (wordsAreSound E w (cleared (w .count) scratch)), cleared (w .count) scratch)
+  at-room r = elim (audited? E w scratch) [
+    | by-count h e ↦ absurd (room-not-count r h)
+    | by-length h e ↦ absurd (room-long r h)
+    | tested h e ↦ e
+  ]
+
+  -- ---- the verdict
+  -- 2 is never the verdict; yes is, exactly where the tests say so
+  never-2 : (t : Bool) → verdict t ≡ refused 2 → ⊥
+  unfolding verdict
+  never-2 true e = clash (cc)
+  never-2 false e = let z : _≡_ {A = ℕ} 6 2 = cc in omega arith
+
+  said-yes : (t : Bool) → verdict t ≡ done → t ≡ true
+  unfolding verdict
+  said-yes true e = refl
+  said-yes false e = clash (cc)
+
+  said-no : (t : Bool) → verdict t ≡ refused 6 → t ≡ false
+  unfolding verdict
+  said-no true e = clash (cc)
+  said-no false e = refl
+
+  -- the tests say yes exactly if some ledger stands in the words
+  module _ (H : OfHead w) (r : AuditRoom E w scratch) where
+    found-ledger : wordsAreSound E w (cleared (w .count) scratch) ≡ true → SomeLedger E w
+    found-ledger = yes-sound E w (r .tables-room) H (cleared (w .count) scratch)
+        (none-marked (w .nodes) (w .pile) (w .count) scratch (r .scratch-room))
+
+    found-none : wordsAreSound E w (cleared (w .count) scratch) ≡ false → ¬ SomeLedger E w
+    found-none e s =
+        let yes-there = sound-yes E w (s .0) (s .1) (cleared (w .count) scratch)
+        (none-marked (w .nodes) (w .pile) (w .count) scratch (r .scratch-room)) in
+        clash (cc)
+
+  pub sound-audited : (l : Ledger) → Sound E w l → w .count ≤ length scratch → auditWords E w scratch ≡ (done, cleared (w .count) scratch)
+  unfolding verdict
+  sound-audited l S h =
+      at-room record { tables-room = room-of E w l S; scratch-room = h }
+      ∙ rw (sound-yes E w l S (cleared (w .count) scratch) (none-marked (w .nodes) (w .pile) (w .count) scratch h))
+
+  pub done-exactly : OfHead w → (auditWords E w scratch .0 ≡ done) ↔ (AuditRoom E w scratch × SomeLedger E w)
+  done-exactly H = (to, λ p. answer-is (sound-audited (p .1 .0) (p .1 .1) (p .0 .scratch-room)))
+    where
+      to : auditWords E w scratch .0 ≡ done → AuditRoom E w scratch × SomeLedger E w
+      to d = elim (audited? E w scratch) [
+        | by-count h e ↦ clash (let z : refused 6 ≡ done = sym (answer-is e) ∙ d in cc)
+        | by-length h e ↦ clash (let z : refused 2 ≡ done = sym (answer-is e) ∙ d in cc)
+        | tested h e ↦ (h, found-ledger H h (said-yes _ (sym (answer-is e) ∙ d)))
+      ]
+
+  pub short-exactly : (auditWords E w scratch .0 ≡ refused 2) ↔ AuditShort E w scratch
+  short-exactly = (to, λ s. answer-is (at-short s))
+    where
+      to : auditWords E w scratch .0 ≡ refused 2 → AuditShort E w scratch
+      to d = elim (audited? E w scratch) [
+        | by-count h e ↦ absurd (let z : refused 6 ≡ refused 2 = sym (answer-is e) ∙ d in let n : _≡_ {A = ℕ} 6 2 = cc in omega arith)
+        | by-length h e ↦ h
+        | tested h e ↦ absurd (never-2 _ (sym (answer-is e) ∙ d))
+      ]
+
+  pub unsound-exactly : OfHead w
+      → (auditWords E w scratch .0 ≡ refused 6) ↔ (BadCount E (w .count) ⊎ (AuditRoom E w scratch × ¬ SomeLedger E w))
+  unsound-exactly H = (to, back)
+    where
+      to : auditWords E w scratch .0 ≡ refused 6 → BadCount E (w .count) ⊎ (AuditRoom E w scratch × ¬ SomeLedger E w)
+      to d = elim (audited? E w scratch) [
+        | by-count h e ↦ inl h
+        | by-length h e ↦ absurd (let z : refused 2 ≡ refused 6 = sym (answer-is e) ∙ d in let n : _≡_ {A = ℕ} 2 6 = cc in omega arith)
+        | tested h e ↦ inr (h, found-none H h (said-no _ (sym (answer-is e) ∙ d)))
+      ]
+
+      no-ledger : AuditRoom E w scratch → ¬ SomeLedger E w → (t : Bool) → wordsAreSound E w (cleared (w .count) scratch) ≡ t
+          → t ≡ false
+      no-ledger r n true e = absurd (n (found-ledger H r e))
+      no-ledger r n false e = refl
+
+      back : BadCount E (w .count) ⊎ (AuditRoom E w scratch × ¬ SomeLedger E w) → auditWords E w scratch .0 ≡ refused 6
+      back (inl b) = answer-is (at-bad-count b)
+      back (inr p) = answer-is (at-room (p .0)) ∙ rw (no-ledger (p .0) (p .1) _ refl) (unfold verdict in refl)
+
+  pub one-of-three : (auditWords E w scratch .0 ≡ done) ⊎ ((auditWords E w scratch .0 ≡ refused 2) ⊎ (auditWords E w scratch .0 ≡ refused 6))
+  unfolding verdict
+  one-of-three = elim (audited? E w scratch) [
+    | by-count h e ↦ inr (inr (answer-is e))
+    | by-length h e ↦ inr (inl (answer-is e))
+    | tested h e ↦ go (wordsAreSound E w (cleared (w .count) scratch)) (answer-is e)
+  ]
+    where
+      go : (t : Bool) → auditWords E w scratch .0 ≡ verdict t
+          → (auditWords E w scratch .0 ≡ done) ⊎ ((auditWords E w scratch .0 ≡ refused 2) ⊎ (auditWords E w scratch .0 ≡ refused 6))
+      go true e = inl e
+      go false e = inr (inr e)
+
+  -- ---- the scratch
+  pub same-length : length (auditWords E w scratch .1) ≡ length scratch
+  same-length = elim (audited? E w scratch) [
+    | by-count h e ↦ ap (length {A = ℕ}) (scratch-is e)
+    | by-length h e ↦ ap (length {A = ℕ}) (scratch-is e)
+    | tested h e ↦ ap (length {A = ℕ}) (scratch-is e) ∙ cleared-length (w .count) scratch
+  ]
+
+  pub zero-low : AuditRoom E w scratch → (i : ℕ) → i < w .count → getD (auditWords E w scratch .1) i 0 ≡ 0
+  zero-low r i l = ap (λ (s : List ℕ). getD s i 0) (scratch-is (at-room r)) ∙ cleared-low (w .count) scratch i (r .scratch-room) l
+
+  pub same-beyond : (i : ℕ) → w .count ≤ i → getD (auditWords E w scratch .1) i 0 ≡ getD scratch i 0
+  same-beyond i l = elim (audited? E w scratch) [
+    | by-count h e ↦ ap (λ (s : List ℕ). getD s i 0) (scratch-is e)
+    | by-length h e ↦ ap (λ (s : List ℕ). getD s i 0) (scratch-is e)
+    | tested h e ↦ ap (λ (s : List ℕ). getD s i 0) (scratch-is e) ∙ cleared-high (w .count) scratch i l
+  ]
+
+-- ---- what stood in the scratch makes no difference
+same-answer : (E : Edition) (w : Words) (scratch other : List ℕ) → OfHead w → w .count ≤ length scratch → w .count ≤ length other
+    → auditWords E w scratch .0 ≡ auditWords E w other .0
+same-answer E w scratch other H a b = elim (one-of-three E w scratch) [
+  | inl e ↦ e ∙ sym (done-exactly E w other H .1 (room (done-exactly E w scratch H .0 e .0), done-exactly E w scratch H .0 e .1))
+  | inr (inl e) ↦ e ∙ sym (short-exactly E w other .1 (short (short-exactly E w scratch .0 e)))
+  | inr (inr e) ↦ e ∙ sym (unsound-exactly E w other H .1 (unsound (unsound-exactly E w scratch H .0 e)))
+]
+  where
+    room : AuditRoom E w scratch → AuditRoom E w other
+    room r = record { tables-room = r .tables-room; scratch-room = b }
+
+    short : AuditShort E w scratch → AuditShort E w other
+    short (inl s) = inl s
+    short (inr s) = absurd (omega (arith, s .1))
+
+    unsound : BadCount E (w .count) ⊎ (AuditRoom E w scratch × ¬ SomeLedger E w) → BadCount E (w .count) ⊎ (AuditRoom E w other × ¬ SomeLedger E w)
+    unsound (inl s) = inl s
+    unsound (inr s) = inr (room (s .0), s .1)
+
+-- ---- calls
+head-of : (E : Edition) (w : Words) (l : Ledger) → Sound E w l → OfHead w
+head-of E w l S = record { size-fits = S .size-fits; heads-room = S .heads-room; leaves-room = S .leaves-room }
+
+module _ (E : Edition) (scratch : List ℕ) where
+  -- a call keeps the count, since the ledger has it
+  after-call : (w : Words) (l : Ledger) → Sound E w l → w .count ≤ length scratch → (c : Call)
+      → ((m : Ledger) × Sound E (answerWords E c w .1) m) × (answerWords E c w .1 .count ≤ length scratch)
+  after-call w l S h c =
+      let next = call-sound E w l S c .1 in
+      let well = call-well (w .size) (w .count) (S .count-low) c l (S .well) in
+      ((_, next), omega (arith, all-records (next .well .lined), all-records (well .lined)))
+
+  run-audited : (cs : List Call) (w : Words) (l : Ledger) → Sound E w l → w .count ≤ length scratch → auditWords E (endWords E cs w) scratch .0 ≡ done
+  unfolding endWords
+  run-audited [] w l S h = answer-is E w scratch (sound-audited E w scratch l S h)
+  run-audited (c ∷ cs) w l S h =
+      let next = after-call w l S h c in
+      run-audited cs (answerWords E c w .1) (next .0 .0) (next .0 .1) (next .1)
+
+  one-call : (w : Words) → OfHead w → auditWords E w scratch .0 ≡ done → (c : Call) → auditWords E (answerWords E c w .1) scratch .0 ≡ done
+  one-call w H e c =
+      let p = done-exactly E w scratch H .0 e in
+      let next = after-call w (p .1 .0) (p .1 .1) (p .0 .scratch-room) c in
+      answer-is E (answerWords E c w .1) scratch (sound-audited E (answerWords E c w .1) scratch (next .0 .0) (next .0 .1) (next .1))
+
+  setup-count : (size count : ℕ) (nodes pile : List ℕ) → (small : size < 2 ^ 32) → (accepted : setupWords E size count nodes pile .0 ≡ done)
+      → setupWords E size count nodes pile .1 .count ≡ count
+  setup-count size count nodes pile small accepted =
+      sym (all-records (setup-sound E size count nodes pile small accepted .well .lined))
+      ∙ all-records (setup-well size count (setup-done E size count nodes pile .0 accepted .count-low) .lined)
+
+-- a question gives the words as they came, whatever the gate says
+kept : (g : ℕ) (w : Words) (a : Answer) → gated g w (a, w) .1 ≡ w
+unfolding gated
+kept zero w a = refl
+kept (suc g) w a = refl
+
+question-same : (E : Edition) (c : Call) → Question c → (w : Words) → answerWords E c w .1 ≡ w
+unfolding answerWords
+question-same E (SizeOf r) size-query w = kept (gateOf E w) w _
+question-same E Report short-report w = kept (gateOf E w) w _
+question-same E FullReport full-report w = kept (gateOf E w) w _
+
+pub claims : (E : Edition) → Claims E
+claims E = record {
+  yes-exactly = done-exactly E;
+  bad-count = at-bad-count E;
+  too-short = at-short E;
+  two-exactly = short-exactly E;
+  six-exactly = unsound-exactly E;
+  no-other = one-of-three E;
+  scratch-length = same-length E;
+  scratch-low = zero-low E;
+  scratch-beyond = same-beyond E;
+  any-scratch = same-answer E;
+  sound-yes = λ w l scratch S h. sound-audited E w scratch l S h;
+  call-keeps = λ w scratch. one-call E scratch w;
+  run-keeps = λ size count nodes pile scratch small accepted h cs.
+      run-audited E scratch cs (setupWords E size count nodes pile .1) (setup size count) (setup-sound E size count nodes pile small accepted)
+      (omega (arith, setup-count E scratch size count nodes pile small accepted));
+  question-leaves = λ c q w scratch. ap (λ (v : Words). auditWords E v scratch) (question-same E c q w);
+}

@@ -1,0 +1,32 @@
+-- An audit whose answer and scratch are the model's keeps all that it promises, and its promise allows one outcome. Assumes nothing.
+use mathlib.Core.Path.{_≡_, refl, sym, subst, _∙_}
+use mathlib.Core.List.{List}
+use Prim.Native.Nat.{ℕ}
+use Rattle.ledger.specs.Ledger.{Answer}
+use Rattle.tables.specs.Words.{Words, Edition}
+use Rattle.auditing.specs.Audit.{auditWords}
+use Rattle.auditing.specs.Promise.{AuditPromise}
+use Rattle.auditing.proofs.Claims.{claims}
+
+-- what the model leaves is promised
+model-promise : (E : Edition) (w : Words) (scratch : List ℕ)
+    → AuditPromise E w scratch (auditWords E w scratch .1) (auditWords E w scratch .0)
+model-promise E w scratch = record {
+  exact = refl;
+  yes-exactly = claims E .yes-exactly w scratch;
+  two-exactly = claims E .two-exactly w scratch;
+  no-other = claims E .no-other w scratch;
+  scratch-length = claims E .scratch-length w scratch;
+  scratch-low = claims E .scratch-low w scratch;
+  scratch-beyond = claims E .scratch-beyond w scratch;
+}
+
+pub audit-promise : (E : Edition) (w : Words) (scratch : List ℕ) {left : List ℕ} {a : Answer} → (a, left) ≡ auditWords E w scratch
+    → AuditPromise E w scratch left a
+audit-promise E w scratch e =
+    subst (λ (x : Answer × List ℕ). AuditPromise E w scratch (x .1) (x .0)) (sym e) (model-promise E w scratch)
+
+-- any two outcomes that a promise allows coincide
+pub one-audit : (E : Edition) (w : Words) (scratch : List ℕ) {left other : List ℕ} {a b : Answer} → AuditPromise E w scratch left a
+    → AuditPromise E w scratch other b → _≡_ {A = Answer × List ℕ} (a, left) (b, other)
+one-audit E w scratch p q = p .exact ∙ sym (q .exact)

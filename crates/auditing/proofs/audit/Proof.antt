@@ -1,0 +1,50 @@
+-- Shut out by the gate, or let in. Assumes nothing.
+use mathlib.Core.List.{[]}
+use Rattle.tables.specs.Calls.{edition32}
+use Rattle.bins.specs.InWords.{wordsOf}
+use Rattle.bins.proofs.GateWalk.{opened, has-room}
+use Rattle.auditing.proofs.Verdicts.{shut-out, let-in}
+use Rattle.auditing.proofs.Promise.{audit-promise}
+use borrow.Author.Needs.{needs}
+use Rattle.auditing.proofs.audit.Statement.{statement}
+use Rattle.auditing.proofs.audit.Tie as tie
+
+test-requires : tie.Need-test-requires
+test-requires c κs = search needs
+
+enum-known-why : tie.Need-enum-known-why
+enum-known-why c = search needs
+
+enum-told : tie.Need-enum-told
+enum-told c = search needs
+
+behind-gate-requires : tie.Need-behind-gate-requires
+behind-gate-requires c κs =
+    let told = c .before in
+    let tested = told .before .before in
+    let a = tested .before .before .before .before .args in
+    has-room (wordsOf (a .t) [] [] (a .nodes .now) (a .free-nodes .now)) (tested .test .ensures) (told .enum-told .given .1)
+
+returns : tie.Need-returns
+returns c = audit-promise edition32 _ _ (shut-out _ _ (c .before .before .before .test .ensures) (c .before .why .given .1))
+
+same-length : tie.Need-same-length
+same-length c = search needs
+
+returns-2 : tie.Need-returns-2
+returns-2 c =
+    let told = c .before .before .before .before in
+    audit-promise edition32 _ _
+    (let-in _ _ (opened _ (told .before .before .test .ensures) (told .enum-told .given .1)) (c .before .before .behind-gate .ensures))
+
+pub audit-spec : {M : Type 1} → statement M
+audit-spec =
+    tie.close
+    (tie.spec
+    test-requires
+    enum-known-why
+    enum-told
+    behind-gate-requires
+    returns
+    same-length
+    returns-2)

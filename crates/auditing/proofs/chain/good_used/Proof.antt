@@ -1,0 +1,16 @@
+-- By the test that the model makes too. Assumes nothing.
+use borrow.Author.Tests.{eq-eqb, ne-eqb}
+use Rattle.auditing.specs.Chain.{goodUsed}
+use Rattle.auditing.proofs.chain.good_used.Statement.{statement}
+use Rattle.auditing.proofs.chain.good_used.Tie as tie
+
+returns : tie.Need-returns
+unfolding goodUsed
+returns c = rw (eq-eqb _ _ (c .if1 .taken))
+
+returns-2 : tie.Need-returns-2
+unfolding goodUsed
+returns-2 c = rw (ne-eqb _ _ (c .if1 .left))
+
+pub good-used-spec : {M : Type 1} → statement M
+good-used-spec = tie.close (tie.spec returns returns-2)

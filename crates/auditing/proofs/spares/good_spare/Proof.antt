@@ -1,0 +1,29 @@
+-- By the tests that the model makes too. Assumes nothing.
+use borrow.Author.Tests.{lt-ltb, le-ltb, eq-eqb, ne-eqb}
+use Rattle.auditing.specs.Spares.{goodSpare}
+use borrow.Author.Needs.{needs}
+use Rattle.auditing.proofs.spares.good_spare.Statement.{statement}
+use Rattle.auditing.proofs.spares.good_spare.Tie as tie
+
+returns : tie.Need-returns
+unfolding goodSpare
+returns c = rw (le-ltb _ _ (c .if1 .taken))
+
+marked-requires : tie.Need-marked-requires
+marked-requires c κs = search needs
+
+returns-2 : tie.Need-returns-2
+unfolding goodSpare
+returns-2 c = rw (lt-ltb _ _ (c .before .before .if1 .left), ← (c .before .marked .ensures), ne-eqb _ _ (c .if2 .taken))
+
+word-requires : tie.Need-word-requires
+word-requires c κs = search needs
+
+returns-3 : tie.Need-returns-3
+unfolding goodSpare
+returns-3 c =
+    let d = c .before .before in
+    rw (lt-ltb _ _ (d .before .if1 .left), ← (d .marked .ensures), eq-eqb _ _ (c .before .if2 .left), c .word .ensures)
+
+pub good-spare-spec : {M : Type 1} → statement M
+good-spare-spec = tie.close (tie.spec returns marked-requires returns-2 word-requires returns-3)

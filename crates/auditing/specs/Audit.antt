@@ -1,0 +1,70 @@
+-- The audit: all its tests in order, and the call with its gate and its scratch. Assumes nothing.
+use mathlib.Core.Bool.{Bool, true, false}
+use mathlib.Core.List.{List}
+use Prim.Native.Nat.{ℕ, zero, suc, _+_}
+use lib.Dec.{ltb}
+use lib.ListN.{length}
+use Rattle.ledger.specs.Ledger.{Answer, done, refused}
+use Rattle.tables.specs.Layout.{pick}
+use Rattle.tables.specs.Words.{Words, Edition}
+use Rattle.tables.specs.Gate.{gateOf}
+use Rattle.auditing.specs.declared.chain.Walk.{Walk}
+use Rattle.auditing.specs.Scratch.{cleared}
+use Rattle.auditing.specs.Spares.{Marked, markFrom}
+use Rattle.auditing.specs.Chain.{firstRecord, walkFrom, started, walkEnds}
+use Rattle.auditing.specs.Lists.{listsFrom}
+use Rattle.auditing.specs.Bits.{bitsAgree}
+
+-- ---- the tests
+module _ (E : Edition) (w : Words) where
+  -- the chain walked from its first record, the spare records being marked
+  unfoldable pub chainWalk : (marks : List ℕ) → Walk
+  unfolding walkFrom firstRecord
+  chainWalk marks =
+      walkFrom (w .count) (w .nodes) marks (w .count) (w .size) (started E (firstRecord E (w .count) (w .nodes) marks 0))
+
+  -- the lists and the bits, the chain having ended there
+  unfoldable pub restIsSound : (marks : List ℕ) → Walk → Bool
+  unfolding listsFrom bitsAgree
+  restIsSound marks end =
+      pick (listsFrom E 256 (w .nodes) marks (w .heads) (w .count) (end .frees) 0 0) (bitsAgree E (w .heads) (w .leaves) (w .top)) false
+
+  unfoldable pub endIsSound : (marks : List ℕ) → Walk → Bool
+  unfolding walkEnds restIsSound
+  endIsSound marks end = pick (walkEnds E (w .size) (w .count) (w .total) (w .off + 1) end) (restIsSound marks end) false
+
+  -- chain, lists and bits, the spare records being marked
+  unfoldable pub recordsAreSound : (marks : List ℕ) → Bool
+  unfolding endIsSound chainWalk
+  recordsAreSound marks = endIsSound marks (chainWalk marks)
+
+  unfoldable pub pileIsSound : Marked → Bool
+  unfolding recordsAreSound
+  pileIsSound m = pick (m .fine) (recordsAreSound (m .marks)) false
+
+  -- the pile leaves at least one record for the chain; then the pile, and then the rest; the scratch being clear
+  unfoldable pub wordsAreSound : (scratch : List ℕ) → Bool
+  unfolding pileIsSound markFrom
+  wordsAreSound scratch =
+      pick (ltb (w .off + 1) (w .count)) (pileIsSound (markFrom (w .off + 1) (w .nodes) (w .pile) (w .count) 0 scratch)) false
+
+-- ---- the call
+unfoldable pub verdict : Bool → Answer
+verdict true = done
+verdict false = refused 6
+
+-- the scratch's length comes last of the lengths; found sound or not, its words below the count are 0 at the end
+unfoldable pub behindGate : Edition → Words → (scratch : List ℕ) → Answer × List ℕ
+unfolding verdict wordsAreSound cleared
+behindGate E w scratch =
+    pick (ltb (length scratch) (w .count)) (refused 2, scratch)
+    (verdict (wordsAreSound E w (cleared (w .count) scratch)), cleared (w .count) scratch)
+
+-- refused by the gate, it leaves the scratch as it came
+unfoldable pub gatedAudit : ℕ → (scratch : List ℕ) → Answer × List ℕ → Answer × List ℕ
+gatedAudit zero scratch outcome = outcome
+gatedAudit (suc k) scratch outcome = (refused (suc k), scratch)
+
+unfoldable pub auditWords : Edition → Words → (scratch : List ℕ) → Answer × List ℕ
+unfolding gatedAudit gateOf behindGate
+auditWords E w scratch = gatedAudit (gateOf E w) scratch (behindGate E w scratch)

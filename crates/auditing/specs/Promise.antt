@@ -1,0 +1,25 @@
+-- What the audit promises: one record for both forms of it. Nodes, pile and head are lent to be read, so that they stay is said by the types.
+-- Assumes nothing.
+use mathlib.Core.Path.{_≡_}
+use mathlib.Core.Logic.{_↔_, _⊎_}
+use mathlib.Core.List.{List}
+use Prim.Native.Nat.{ℕ, _≤_, _<_}
+use lib.ListN.{length, getD}
+use Rattle.ledger.specs.Ledger.{Answer, done, refused}
+use Rattle.tables.specs.Words.{Words, Edition}
+use Rattle.auditing.specs.Audit.{auditWords}
+use Rattle.auditing.specs.Claims.{OfHead, SomeLedger, AuditRoom, AuditShort}
+
+-- the audit of the words w, lent the scratch, answers a and leaves the scratch so
+pub record AuditPromise (E : Edition) (w : Words) (scratch left : List ℕ) (a : Answer) : Type 0 where
+  -- answer and scratch are the model's, for all words
+  pub exact : (a, left) ≡ auditWords E w scratch
+  -- yes exactly if the tables are long enough and some ledger stands in them
+  pub yes-exactly : OfHead w → (a ≡ done) ↔ (AuditRoom E w scratch × SomeLedger E w)
+  -- 2 exactly for a length; otherwise, if it is not yes, 6
+  pub two-exactly : (a ≡ refused 2) ↔ AuditShort E w scratch
+  pub no-other : (a ≡ done) ⊎ ((a ≡ refused 2) ⊎ (a ≡ refused 6))
+  -- the scratch: 0 below the count where the audit got so far, and beyond it as it came
+  pub scratch-length : length left ≡ length scratch
+  pub scratch-low : AuditRoom E w scratch → (i : ℕ) → i < w .count → getD left i 0 ≡ 0
+  pub scratch-beyond : (i : ℕ) → w .count ≤ i → getD left i 0 ≡ getD scratch i 0

@@ -1,0 +1,31 @@
+// The scratch table: a word to a record, 1 where the record is spare.
+ghost use mathlib.Core.Path.{_≡_};
+ghost use Prim.Native.Nat.{_<_, _≤_};
+ghost use lib.ListN.{length, getD, set};
+ghost use Rattle.auditing.specs.Scratch.{cleared};
+
+pub fn clear(scratch: &mut [u32], max_allocs: u32)
+    requires { ⌜ «max_allocs» ≤ length (now scratch) ⌝ }
+    ensures { λ _. ⌜ now (scratch .exit) ≡ cleared «max_allocs» (now (scratch .entry)) ⌝ }
+{
+    let n = max_allocs as usize;
+    let mut i: usize = 0;
+    while i < n {
+        scratch[i] = 0;
+        i += 1;
+    }
+}
+
+pub fn marked(scratch: &[u32], r: u32) -> u32
+    requires { ⌜ r < length (now scratch) ⌝ }
+    ensures { λ v. ⌜ v ≡ getD (now (scratch .entry)) r 0 ⌝ }
+{
+    scratch[r as usize]
+}
+
+pub fn mark(scratch: &mut [u32], r: u32)
+    requires { ⌜ r < length (now scratch) ⌝ }
+    ensures { λ _. ⌜ now (scratch .exit) ≡ set (now (scratch .entry)) r 1 ⌝ }
+{
+    scratch[r as usize] = 1;
+}

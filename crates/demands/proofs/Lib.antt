@@ -1,0 +1,2 @@
+-- Demands: the demands, by citation.
+pub mod Demands
