@@ -11,7 +11,7 @@ pub struct Allocation {
     pub metadata: Handle,
 }
 
-// Why a call is refused. Every refusal changes nothing.
+// Why a call is refused. A refusal changes no word of head or tables; but a refused setup gives a head of zeros.
 pub enum Refusal {
     // 1: setup with a count below 2 or above the limit
     BadCount,

@@ -1,4 +1,5 @@
-// storage_report_full behind the gate: the value of each class, and the length of its list.
+// storage_report_full behind the gate: the value of each class, and the length of its list. Private to the crate: the room that is required
+// here the gate has tested.
 ghost use mathlib.Core.Path.{_≡_};
 ghost use Prim.Native.Nat.{ℕ, _<_};
 ghost use mathlib.Core.List.{List};

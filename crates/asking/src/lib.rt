@@ -59,7 +59,7 @@ pub fn allocation_size(t: Totals, nodes: &[u32], free_nodes: &[u32], handle: Han
     }
 }
 
-// How much is free, and how long a span the next take can have.
+// The sum of the free lengths, and the value of the highest class that holds a region; 0 and 0 with one spare record.
 pub fn storage_report(
     t: Totals,
     used_bins: &[u8; 32],

@@ -63,7 +63,9 @@ fn words_are_sound(
     requires { ⌜ Room edition32 (t .«max_allocs») (length (now nodes)) (length (now «free_nodes»)) ⌝ }
     requires { ⌜ t .«max_allocs» ≤ length (now scratch) ⌝ }
     ensures { λ b. ⌜ b
-        ≡ wordsAreSound edition32 (wordsOf t (now («bin_indices» .entry)) (now («used_bins» .entry)) (now (nodes .entry)) (now («free_nodes» .entry))) (now (scratch .entry)) ⌝ }
+        ≡ wordsAreSound edition32
+        (wordsOf t (now («bin_indices» .entry)) (now («used_bins» .entry)) (now (nodes .entry)) (now («free_nodes» .entry)))
+        (now (scratch .entry)) ⌝ }
     ensures { λ b. ⌜ cleared (t .«max_allocs») (now (scratch .exit)) ≡ cleared (t .«max_allocs») (now (scratch .entry)) ⌝ }
 {
     if t.max_allocs - 1 <= t.free_offset {

@@ -1,4 +1,5 @@
-// The scratch table: a word to a record, 1 where the record is spare.
+// The scratch table: a word to a record, 1 where the record is spare. Private to the crate: the room that is required here and in the
+// files beside this one the audit's gate has tested.
 ghost use mathlib.Core.Path.{_≡_};
 ghost use Prim.Native.Nat.{_<_, _≤_};
 ghost use lib.ListN.{length, getD, set};

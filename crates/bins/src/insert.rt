@@ -1,4 +1,4 @@
-// insert_node_into_bin of the Rust, but for the pile: a record becomes a free region and goes on top of its class.
+// insert_node_into_bin of the Rust, but for the pile and the free total: a record becomes a free region and goes on top of its class.
 ghost use mathlib.Core.Path.{_≡_};
 ghost use Prim.Native.Nat.{ℕ, _<_};
 ghost use mathlib.Core.List.{List};
@@ -62,7 +62,8 @@ fn insert_into_class(
     ensures { λ u. ⌜ ((ps : List ℕ) →
         wordsOf u (now («bin_indices» .exit)) (now («used_bins» .exit)) (now (nodes .exit)) ps
         ≡ insertAt (bound (t .«max_allocs»))
-        (wordsOf t (now («bin_indices» .entry)) (now («used_bins» .entry)) (now (nodes .entry)) ps) size offset c (getD (now («bin_indices» .entry)) c 0) m prev next) ⌝ }
+        (wordsOf t (now («bin_indices» .entry)) (now («used_bins» .entry)) (now (nodes .entry)) ps)
+        size offset c (getD (now («bin_indices» .entry)) c 0) m prev next) ⌝ }
 {
     let i = c as usize;
     let old_top = bin_indices[i];

@@ -1,4 +1,4 @@
-// remove_node_from_bin of the Rust, but for the pile: a record leaves the list of its class.
+// remove_node_from_bin of the Rust, but for the pile and the free total: a record leaves the list of its class.
 ghost use mathlib.Core.Path.{_≡_};
 ghost use Prim.Native.Nat.{ℕ, _<_};
 ghost use mathlib.Core.List.{List};

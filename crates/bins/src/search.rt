@@ -3,9 +3,10 @@ ghost use mathlib.Core.Path.{_≡_};
 ghost use Prim.Native.Nat.{_+_, _<_};
 ghost use Rattle.tables.specs.Search.{lowFrom, leafLow, lowInBin, leafOrAbove, findClass, highBit};
 
-// No class was found; the bits contradict each other.
+// No class was found.
 pub const NO_CLASS: u32 = 256;
 
+// The bits contradict each other: a top bit is set over a leaf byte of 0.
 pub const BAD_BITS: u32 = 257;
 
 pub fn wide(x: u8) -> u32

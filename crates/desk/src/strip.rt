@@ -1,18 +1,11 @@
 // A strip of the store: its regions in address order, each with its record and its length, parted by `=` if it is live and by `.` if it is
-// free. It is read from the words of the table of records, whose layout docs/MAP.md gives.
+// free. It is read from the words of the table of records, whose layout docs/TABLES.md gives.
 use crate::text;
-
-// The words of a record that the strip needs.
-const DATA_SIZE: usize = 1;
-
-const NEIGHBOR_PREV: usize = 4;
-
-const NEIGHBOR_NEXT: usize = 5;
-
-const USED: usize = 6;
-
-// The absent link.
-const NONE: u32 = 4294967295;
+use bins::nodes::DATA_SIZE;
+use bins::nodes::NEIGHBOR_NEXT;
+use bins::nodes::NEIGHBOR_PREV;
+use bins::nodes::NONE;
+use bins::nodes::USED;
 
 // Word k of a record; 0 past the end.
 fn word(nodes: &[u32], record: u32, k: usize) -> u32 {

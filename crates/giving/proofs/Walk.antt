@@ -14,6 +14,10 @@ use Rattle.tables.proofs.Gate.{gated-open}
 use Rattle.tables.proofs.Guards.{back-guards}
 use Rattle.giving.specs.Answers.{handedBack}
 
+-- an answer that is known, beside words
+pub answered : {a b : Answer} (v : Words) → a ≡ b → _≡_ {A = Answer × Words} (a, v) (b, v)
+answered v e = ap (λ (a : Answer). (a, v)) e
+
 module _ (w : Words) (r : ℕ) where
   pub stopped : {k : ℕ} → planBack w r ≡ stop k → (refused k, w) ≡ handedBack r w
   unfolding doBack

@@ -1,16 +1,21 @@
 // Hand back: `free` of the Rust, in place.
 ghost use mathlib.Core.Path.{_≡_};
 ghost use Prim.Native.Nat.{_≤_};
+ghost use mathlib.Core.List.{[]};
 ghost use lib.ListN.{length};
+ghost use Rattle.ledger.specs.Ledger.{done};
 ghost use Rattle.ledger.specs.Calls.{HandBack};
 ghost use Rattle.tables.specs.Calls.{edition32};
+ghost use Rattle.tables.specs.HandBack.{merging};
+ghost use Rattle.tables.specs.Guards.{MergeGuards};
 ghost use Rattle.tables.specs.Promise.{Promise};
-ghost use Rattle.bins.specs.InWords.{wordsOf, HasRoom};
-ghost use Rattle.giving.specs.Answers.{answerOf, outcomeOf, handedBack};
+ghost use Rattle.bins.specs.InWords.{wordsOf, bound, HasRoom};
+ghost use Rattle.giving.specs.Answers.{answerOf, outcomeOf, handedBack, mergedIn};
 use answers::Handle;
 use answers::Refusal;
 use bins::gate::Gate;
 use bins::totals::Totals;
+use plan::Merged;
 use plan::Planned;
 
 mod commit;
@@ -24,6 +29,48 @@ pub enum BackAnswer {
 pub struct Returned {
     pub answer: BackAnswer,
     pub totals: Totals,
+}
+
+// The plan carried out. All its writes are here: without them the hand-back would be done in name alone.
+fn carry_out(
+    t: Totals,
+    bin_indices: &mut [u32; 256],
+    used_bins: &mut [u8; 32],
+    nodes: &mut [u32],
+    free_nodes: &mut [u32],
+    r: u32,
+    prev: u32,
+    next: u32,
+    prev_free: bool,
+    next_free: bool,
+    m: Merged,
+) -> Returned
+    requires { ⌜ HasRoom (t .«max_allocs») (now nodes) ⌝ }
+    requires { ⌜ t .«max_allocs» ≤ length (now «free_nodes») ⌝ }
+    requires { ⌜ MergeGuards (wordsOf t [] [] (now nodes) []) r prev next «prev_free» «next_free» (mergedIn m) ⌝ }
+    ensures { λ a. ⌜ answerOf (a .answer) ≡ done ⌝ }
+    ensures { λ a. ⌜ wordsOf (a .totals) (now («bin_indices» .exit)) (now («used_bins» .exit)) (now (nodes .exit)) (now («free_nodes» .exit))
+        ≡ merging (bound (t .«max_allocs»))
+        (wordsOf t (now («bin_indices» .entry)) (now («used_bins» .entry)) (now (nodes .entry)) (now («free_nodes» .entry)))
+        r prev next «prev_free» «next_free» (mergedIn m) ⌝ }
+{
+    let totals = commit::merge(
+        bin_indices,
+        used_bins,
+        nodes,
+        free_nodes,
+        t,
+        r,
+        prev,
+        next,
+        prev_free,
+        next_free,
+        m,
+    );
+    Returned {
+        answer: BackAnswer::Done,
+        totals: totals,
+    }
 }
 
 // Behind the gate.
@@ -45,22 +92,19 @@ fn give_back(
             answer: BackAnswer::Refused(why),
             totals: t,
         },
-        Planned::Merge(prev, next, prev_free, next_free, m) => Returned {
-            answer: BackAnswer::Done,
-            totals: commit::merge(
-                bin_indices,
-                used_bins,
-                nodes,
-                free_nodes,
-                t,
-                r,
-                prev,
-                next,
-                prev_free,
-                next_free,
-                m,
-            ),
-        },
+        Planned::Merge(prev, next, prev_free, next_free, m) => carry_out(
+            t,
+            bin_indices,
+            used_bins,
+            nodes,
+            free_nodes,
+            r,
+            prev,
+            next,
+            prev_free,
+            next_free,
+            m,
+        ),
     }
 }
 

@@ -1,4 +1,5 @@
-// What a hand-back finds, or why not: reads only, so that a refusal changes nothing.
+// What a hand-back finds, or why not: reads only, so that a refusal changes nothing. Private to the crate: the room that is required here
+// the gate has tested.
 ghost use mathlib.Core.Path.{_≡_};
 ghost use Prim.Native.Nat.{ℕ, _≤_, _<_};
 ghost use mathlib.Core.List.{List, []};
@@ -92,7 +93,7 @@ fn plan_merged(t: Totals, prev: u32, next: u32, before: Side, after: Side, own: 
     Planned::Merge(prev, next, before.free, after.free, m)
 }
 
-// The record is live, and so on.
+// What a hand-back of record r finds: refused with 5 if it is not live.
 pub fn plan(t: Totals, nodes: &[u32], r: u32) -> Planned
     requires { ⌜ HasRoom (t .«max_allocs») (now nodes) ⌝ }
     ensures { λ g. ⌜ ((heads leaves pile : List ℕ) → planOf g ≡ planBack (wordsOf t heads leaves (now (nodes .entry)) pile) r) ⌝ }

@@ -17,7 +17,7 @@ impl Head {
         asking::allocation_size(t, nodes, free_nodes, handle)
     }
 
-    // How much is free, and how long a span the next take can have.
+    // The sum of the free lengths, and the value of the highest class that holds a region; 0 and 0 with one spare record.
     pub fn storage_report(self, nodes: &[u32], free_nodes: &[u32]) -> ReportAnswer
         ensures { λ a. ⌜ Asked (reportAnswerOf a) Report (headWords self (now (nodes .entry)) (now («free_nodes» .entry))) ⌝ }
     {

@@ -1,5 +1,5 @@
--- What the definitions beside this file give a reader to rely on: a row that is written is read and judged, and a list's tally adds
--- up. One record, which proofs/Facts.antt makes. Assumes nothing.
+-- What the definitions beside this file give a reader to rely on: a row that is written is read, and judged if it is one of classes; a row of the
+-- list of runs agrees only with its own letter and last two numbers; and the tally of a list of classes adds up. One record, which proofs/Facts.antt makes. Assumes nothing.
 use Prim.Native.Nat.{ℕ, _+_, _*_, _^_, _≤_, _<_}
 use mathlib.Core.Path.{_≡_}
 use mathlib.Core.Logic.{_↔_}
@@ -9,9 +9,12 @@ use lib.ListN.{length}
 use Rattle.replay.specs.declared.rows.State.the-variants.{Within}
 use Rattle.replay.specs.declared.rows.Reader.{Reader}
 use Rattle.replay.specs.declared.tally.Tally.{Tally}
+use Rattle.replay.specs.declared.tally.Verdict.the-variants.{Agrees}
+use Rattle.replay.specs.declared.calls.Said.{Said}
 use Rattle.replay.specs.declared.classes.Replay.{Replay}
 use Rattle.replay.specs.Rows.{fresh, ended, fedAll, endsWell}
 use Rattle.replay.specs.Tally.{counted}
+use Rattle.replay.specs.Calls.{callVerdict}
 use Rattle.replay.specs.Verdicts.{rowVerdict}
 use Rattle.replay.specs.Replay.{noBytes, afterBytes}
 
@@ -68,5 +71,7 @@ pub record ListFacts : Type 0 where
       → length ns ≤ 4
       → afterBytes p (rowText letter text)
       ≡ record { reader = rowRead letter ns; tally = counted (p .tally) (rowVerdict (rowRead letter ns)) }
+  -- a row of the list of runs agrees with one letter and two numbers alone
+  pub agrees-only : (r : Reader) (s : Said) → callVerdict r s ≡ Agrees → (r .letter ≡ s .letter) × (r .c ≡ s .c) × (r .d ≡ s .d)
   -- no counter is full at the end of a list that a machine can hold
   pub adds-up : (bytes : List ℕ) → length bytes < 2 ^ 64 → AddsUp (afterBytes noBytes bytes .tally)

@@ -1,7 +1,7 @@
 // The calls by value: the head goes in and comes out.
-use crate::draws;
-use crate::draws::Draws;
 use crate::held;
+use crate::progress;
+use crate::progress::Draws;
 use offset_allocator::head::Head;
 use small_float::Size;
 use taking::TakeAnswer;
@@ -86,8 +86,8 @@ pub fn drive(calls: u32) -> Draws {
     let mut free_nodes = [0u32; 16384];
     let mut out = [0u32; 16384];
     let started = Head::with_max_allocs(
-        Size(draws::STORE),
-        draws::RECORDS,
+        Size(progress::STORE),
+        progress::RECORDS,
         &mut nodes,
         &mut free_nodes,
     );

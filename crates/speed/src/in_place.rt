@@ -1,7 +1,7 @@
 // The calls in place: the scalars by value, the arrays and the tables lent.
-use crate::draws;
-use crate::draws::Draws;
 use crate::held;
+use crate::progress;
+use crate::progress::Draws;
 use bins::totals::Totals;
 use small_float::Size;
 use taking::TakeAnswer;
@@ -108,8 +108,8 @@ pub fn drive(calls: u32) -> Draws {
     let mut free_nodes = [0u32; 16384];
     let mut out = [0u32; 16384];
     let started = starting::with_max_allocs(
-        Size(draws::STORE),
-        draws::RECORDS,
+        Size(progress::STORE),
+        progress::RECORDS,
         &mut bin_indices,
         &mut used_bins,
         &mut nodes,

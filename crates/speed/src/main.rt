@@ -1,16 +1,16 @@
 // A driver to be timed: as many seeded takes and returns as standard input says, in a store of 4 MiB with 16,384 records and sizes from 1 to
 // 2,000. A row of the input is `p CALLS` for the calls in place or `v CALLS` for those by value. The oracle's `speed CALLS` does the same
-// with the Rust, and prints the same two lines. `a SETUPS AUDITS` makes so many setups with 131,072 records, then as many audits. docs/SPEED.md has the
-// figures.
+// with the Rust, and prints the same two lines. `a SETUPS AUDITS` makes so many setups with 131,072 records, then so many audits.
+// docs/SPEED.md has the figures.
 mod audits;
 mod by_value;
-mod draws;
 mod held;
 mod in_place;
+mod progress;
 
-use draws::Draws;
 use libc::STDIN_FILENO;
 use libc::STDOUT_FILENO;
+use progress::Draws;
 use replay::rows::Reader;
 
 fn line(text: &[u8], n: u32) {

@@ -1,4 +1,5 @@
-// The words that setup and reset write: the two arrays cleared, each record below the count not live, each on the pile.
+// The words that setup and reset write: the two arrays cleared, each record below the count not live, each on the pile. Private to the
+// crate: the room that is required here the gate has tested.
 ghost use mathlib.Core.Path.{_≡_};
 ghost use Prim.Native.Nat.{_≤_};
 ghost use lib.ListN.{length, replicate};

@@ -1,8 +1,9 @@
 -- A take's answers as the ledger's, and its plan as the model's. Assumes nothing.
 use mathlib.Core.Path.{_≡_}
-use Prim.Native.Nat.{ℕ}
+use Prim.Native.Nat.{ℕ, _≤_, _<_}
 use Rattle.ledger.specs.Ledger.{Answer, granted, refused}
 use Rattle.tables.specs.Words.{Words}
+use Rattle.tables.specs.Search.{noClass}
 use Rattle.tables.specs.Calls.{edition32}
 use Rattle.tables.specs.Take.{TakePlan, stop, whole, split, planTake, doTake}
 use Rattle.answers.specs.Refusals.{numberOf}
@@ -24,3 +25,10 @@ planOf (Split c r o rest m) = split c r o rest m
 -- behind the gate: the answer and the words are those of the model's plan
 abbrev pub TakesAsPlanned : ℕ → (w v : Words) → Answer → Type 0
 TakesAsPlanned s w v a = _≡_ {A = Answer × Words} (a, v) (doTake edition32 w s (planTake w s))
+
+-- n is the number of what stops a take before it looks at a region of class c, and 0 if nothing does: spares are asked for before fit
+pub record StoppedBy (spares c n : ℕ) : Type 0 where
+  pub no-spare : spares ≡ 0 → n ≡ 3
+  pub no-class : 1 ≤ spares → c ≡ noClass → n ≡ 4
+  pub bad-bits : 1 ≤ spares → noClass < c → n ≡ 6
+  pub goes-on : 1 ≤ spares → c < noClass → n ≡ 0

@@ -1,4 +1,4 @@
-// The writes of a take, which cannot fail: what they rely on, the gate and the plan have tested.
+// The writes of a take, which cannot fail. Private to the crate: what is required here the gate and the plan have tested.
 ghost use mathlib.Core.Path.{_≡_};
 ghost use Prim.Native.Nat.{ℕ, _-_};
 ghost use mathlib.Core.List.{List, []};

@@ -1,15 +1,18 @@
-// What a take finds, or why not: reads only, so that a refusal changes nothing.
+// What a take finds, or why not: reads only, so that a refusal changes nothing. Private to the crate: the room that is required here the
+// gate has tested.
 ghost use mathlib.Core.Path.{_≡_};
 ghost use Prim.Native.Nat.{_≤_, _<_};
 ghost use mathlib.Core.List.{[]};
 ghost use lib.ListN.{length, getD};
-ghost use Rattle.tables.specs.Take.{planSpare, planRegion, planRecord, planClass, planTake};
+ghost use Rattle.small_float.specs.Class.{up};
+ghost use Rattle.tables.specs.Take.{planSpare, planRegion, planRecord, planTake};
 ghost use Rattle.bins.specs.InWords.{wordsOf, HasRoom};
-ghost use Rattle.taking.specs.Answers.{planOf};
+ghost use Rattle.taking.specs.Answers.{planOf, StoppedBy};
 use answers::Refusal;
 use bins::nodes;
 use bins::search;
 use bins::totals::Totals;
+use small_float::Class;
 use small_float::Size;
 
 pub enum Planned {
@@ -82,30 +85,31 @@ fn plan_record(t: Totals, nodes: &[u32], free_nodes: &[u32], size: u32, c: u32, 
     plan_region(t, free_nodes, size, c, r, long, offset)
 }
 
-// There is a class.
-fn plan_class(
-    t: Totals,
-    bin_indices: &[u32; 256],
-    nodes: &[u32],
-    free_nodes: &[u32],
-    size: u32,
-    c: u32,
-) -> Planned
-    requires { ⌜ HasRoom (t .«max_allocs») (now nodes) ⌝ }
-    requires { ⌜ t .«max_allocs» ≤ length (now «free_nodes») ⌝ }
-    ensures { λ g. ⌜ planOf g ≡ planClass (wordsOf t (now («bin_indices» .entry)) [] (now (nodes .entry)) (now («free_nodes» .entry))) size c ⌝ }
+// What stops a take before it looks at a region: the refusal's number, or 0. Spares are asked for before fit, so where both are wanting it
+// is the number of spares.
+fn stopped_by(spares: u32, c: u32) -> u32
+    ensures { λ n. ⌜ StoppedBy spares c n ⌝ }
 {
+    if spares == 0 {
+        return 3;
+    }
     if c == search::NO_CLASS {
-        return Planned::Stop(Refusal::NoRegion);
+        return 4;
     }
     if search::NO_CLASS < c {
-        return Planned::Stop(Refusal::Unsound);
+        return 6;
     }
-    let i = c as usize;
-    plan_record(t, nodes, free_nodes, size, c, bin_indices[i])
+    0
 }
 
-// More than one record is spare, and so on.
+// The class from which the search goes upward: every region from there on is long enough.
+fn class_wanted(size: u32) -> Class
+    ensures { λ c. ⌜ c .0 ≡ up size ⌝ }
+{
+    small_float::uint_to_float_round_up(Size(size))
+}
+
+// What a take of this size finds.
 pub fn plan(
     t: Totals,
     bin_indices: &[u32; 256],
@@ -119,10 +123,12 @@ pub fn plan(
     ensures { λ g. ⌜ planOf g
         ≡ planTake (wordsOf t (now («bin_indices» .entry)) (now («used_bins» .entry)) (now (nodes .entry)) (now («free_nodes» .entry))) size ⌝ }
 {
-    if t.free_offset == 0 {
-        return Planned::Stop(Refusal::NoSpareRecord);
-    }
-    let class = small_float::uint_to_float_round_up(Size(size));
+    let class = class_wanted(size);
     let c = search::find_class(used_bins, t.used_bins_top, class.0);
-    plan_class(t, bin_indices, nodes, free_nodes, size, c)
+    match stopped_by(t.free_offset, c) {
+        0 => plan_record(t, nodes, free_nodes, size, c, bin_indices[c as usize]),
+        3 => Planned::Stop(Refusal::NoSpareRecord),
+        4 => Planned::Stop(Refusal::NoRegion),
+        _ => Planned::Stop(Refusal::Unsound),
+    }
 }

@@ -7,7 +7,8 @@ use Rattle.audit_replay.proofs.replay_input.Statement.{statement}
 use Rattle.audit_replay.proofs.replay_input.Tie as tie
 
 abbrev Inv-loop : tie.InvT-loop
-Inv-loop heads₀ leaves₀ nodes₀ pile₀ replay₀ buffer₀ turns₀ heads leaves nodes pile replay buffer turns = (65536 ≡ length buffer) × (96 ≡ length nodes) × (16 ≡ length pile)
+Inv-loop heads₀ leaves₀ nodes₀ pile₀ replay₀ buffer₀ turns₀ heads leaves nodes pile replay buffer turns =
+    (65536 ≡ length buffer) × (96 ≡ length nodes) × (16 ≡ length pile)
 
 abbrev μ-loop : tie.MeasureT-loop
 μ-loop heads₀ leaves₀ nodes₀ pile₀ replay₀ buffer₀ turns₀ heads leaves nodes pile replay buffer turns = turns

@@ -2,7 +2,7 @@
 use mathlib.Core.Path.{sym, ap, _∙_}
 use mathlib.Core.List.{[]}
 use Rattle.giving.specs.Answers.{planOf}
-use Rattle.giving.proofs.Walk.{stopped, merged-back, ready}
+use Rattle.giving.proofs.Walk.{stopped, answered, merged-back, ready}
 use borrow.Author.Needs.{needs}
 use Rattle.giving.proofs.give_back.Statement.{statement}
 use Rattle.giving.proofs.give_back.Tie as tie
@@ -16,8 +16,8 @@ enum-known-why c = search needs
 enum-known-prev : tie.Need-enum-known-prev
 enum-known-prev c = search needs
 
-merge-requires : tie.Need-merge-requires
-merge-requires c κs =
+carry-out-requires : tie.Need-carry-out-requires
+carry-out-requires c κs =
     let found = c .before .before .before .before .before in
     let planned = found .before .before in
     let start = planned .before .before .before .before in (
@@ -43,7 +43,9 @@ returns-2 : tie.Need-returns-2
 returns-2 c =
     let put = c .before .before .before .before in
     let found = put .before .before .before .before .before .before in
-    merged-back _ _ (sym (found .before .before .plan .ensures _ _ _) ∙ ap planOf (found .prev .given .1)) (put .merge .ensures)
+    let done = put .carry-out .ensures in
+    answered _ (done .0)
+    ∙ merged-back _ _ (sym (found .before .before .plan .ensures _ _ _) ∙ ap planOf (found .prev .given .1)) (done .1)
 
 pub give-back-spec : {M : Type 1} → statement M
 give-back-spec =
@@ -52,7 +54,7 @@ give-back-spec =
     plan-requires
     enum-known-why
     enum-known-prev
-    merge-requires
+    carry-out-requires
     same-length
     returns
     same-length-2

@@ -8,7 +8,8 @@ use Rattle.audit_replay.proofs.judging.feed_all.Statement.{statement}
 use Rattle.audit_replay.proofs.judging.feed_all.Tie as tie
 
 abbrev Inv-loop : tie.InvT-loop
-Inv-loop bytes heads₀ leaves₀ nodes₀ pile₀ replay₀ n i₀ heads leaves nodes pile replay i = (n ≡ length bytes) × (n < 2 ^ 64) × (i ≤ n) × (length nodes ≡ length nodes₀) × (length pile ≡ length pile₀)
+Inv-loop bytes heads₀ leaves₀ nodes₀ pile₀ replay₀ n i₀ heads leaves nodes pile replay i =
+    (n ≡ length bytes) × (n < 2 ^ 64) × (i ≤ n) × (length nodes ≡ length nodes₀) × (length pile ≡ length pile₀)
 
 abbrev μ-loop : tie.MeasureT-loop
 μ-loop bytes heads₀ leaves₀ nodes₀ pile₀ replay₀ n i₀ heads leaves nodes pile replay i = n - i

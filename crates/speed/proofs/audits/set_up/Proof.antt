@@ -8,7 +8,8 @@ use Rattle.speed.proofs.audits.set_up.Statement.{statement}
 use Rattle.speed.proofs.audits.set_up.Tie as tie
 
 abbrev Inv-loop : tie.InvT-loop
-Inv-loop times bin-indices₀ used-bins₀ nodes₀ free-nodes₀ t₀ i₀ bin-indices used-bins nodes free-nodes t i = (length nodes ≡ length nodes₀) × (length free-nodes ≡ length free-nodes₀)
+Inv-loop times bin-indices₀ used-bins₀ nodes₀ free-nodes₀ t₀ i₀ bin-indices used-bins nodes free-nodes t i =
+    (length nodes ≡ length nodes₀) × (length free-nodes ≡ length free-nodes₀)
 
 abbrev μ-loop : tie.MeasureT-loop
 μ-loop times bin-indices₀ used-bins₀ nodes₀ free-nodes₀ t₀ i₀ bin-indices used-bins nodes free-nodes t i = times - i

@@ -11,7 +11,8 @@ storage-report-requires : tie.Need-storage-report-requires
 storage-report-requires c κs = search needs
 
 returns : tie.Need-returns
-returns c = head-asked (c .before .before .before .before .before .before .args .self) (c .before .before .before .totals .ensures) (c .storage-report .ensures _)
+returns c =
+    head-asked (c .before .before .before .before .before .before .args .self) (c .before .before .before .totals .ensures) (c .storage-report .ensures _)
 
 pub storage-report-spec : {M : Type 1} → statement M
 storage-report-spec = tie.close (tie.spec totals-requires storage-report-requires returns)

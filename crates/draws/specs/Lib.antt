@@ -1,0 +1,2 @@
+-- What is drawn from a seed.
+pub mod Draws

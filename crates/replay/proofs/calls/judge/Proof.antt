@@ -1,0 +1,24 @@
+-- By the letter, then by the numbers. Assumes nothing.
+use borrow.Author.Tests.{eq-eqb, ne-eqb}
+use borrow.Author.Needs.{needs}
+use Rattle.replay.specs.Calls.{callVerdict}
+use Rattle.replay.proofs.calls.judge.Statement.{statement}
+use Rattle.replay.proofs.calls.judge.Tie as tie
+
+returns : tie.Need-returns
+unfolding callVerdict
+returns c =
+    let given = c .before .before .before .args in
+    rw (ne-eqb (given .row .letter) (given .said .letter) (c .if1 .taken))
+
+judge-numbers-requires : tie.Need-judge-numbers-requires
+judge-numbers-requires c κs = search needs
+
+returns-2 : tie.Need-returns-2
+unfolding callVerdict
+returns-2 c =
+    let given = c .before .before .before .before .args in
+    rw (eq-eqb (given .row .letter) (given .said .letter) (c .before .if1 .left)) (c .judge-numbers .ensures)
+
+pub judge-spec : {M : Type 1} → statement M
+judge-spec = tie.close (tie.spec returns judge-numbers-requires returns-2)

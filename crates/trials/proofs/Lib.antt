@@ -1,0 +1,3 @@
+-- What the proofs of the program's functions share.
+pub mod Alike
+pub mod FoundAgain

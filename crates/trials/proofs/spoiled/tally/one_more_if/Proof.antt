@@ -1,0 +1,17 @@
+-- A counter that was raised is not 0. Assumes nothing.
+use native.Mathlib.Omega.{arith}
+use borrow.Author.Needs.{needs}
+use Rattle.trials.proofs.spoiled.tally.one_more_if.Statement.{statement}
+use Rattle.trials.proofs.spoiled.tally.one_more_if.Tie as tie
+
+one-more-requires : tie.Need-one-more-requires
+one-more-requires c κs = search needs
+
+returns : tie.Need-returns
+returns c = λ e. absurd (omega arith)
+
+returns-2 : tie.Need-returns-2
+returns-2 c = search needs
+
+pub one-more-if-spec : {M : Type 1} → statement M
+one-more-if-spec = tie.close (tie.spec one-more-requires returns returns-2)

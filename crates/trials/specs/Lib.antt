@@ -1,0 +1,2 @@
+-- What is held against the calls on spoiled tables.
+pub mod Judged

@@ -1,0 +1,39 @@
+// Which forms of the calls are replayed. Both together are the rule; where the tables leave no room for a second set it is one.
+use crate::call::Call;
+use replay::tally::Verdict;
+
+pub enum Forms {
+    Both,
+    InPlace,
+    ByValue,
+}
+
+impl Forms {
+    // What the row asks of the form in place.
+    pub fn call_in_place(self, call: Call) -> Call {
+        let forms = self;
+        match forms {
+            Forms::ByValue => Call::Nothing,
+            _ => call,
+        }
+    }
+
+    // What the row asks of the form by value.
+    pub fn call_by_value(self, call: Call) -> Call {
+        let forms = self;
+        match forms {
+            Forms::InPlace => Call::Nothing,
+            _ => call,
+        }
+    }
+
+    // The row's verdict, from the verdict on each form.
+    pub fn verdict(self, in_place: Verdict, by_value: Verdict) -> Verdict {
+        let forms = self;
+        match forms {
+            Forms::Both => replay::calls::both(in_place, by_value),
+            Forms::InPlace => in_place,
+            Forms::ByValue => by_value,
+        }
+    }
+}

@@ -1,0 +1,103 @@
+// The calls, tried in both forms. Without an argument: the oracle's list of runs is read from standard input and its calls are made, in place and
+// by value, on tables for 1,024 records, the most that a run of the list has; printed is how many rows agree with what the port answers. Then
+// every call is made on spoiled tables.
+//
+// With an argument long runs are replayed, which tools/long-run pipes in, on tables for 131,072 records, one form at a time, because a stack of
+// 8 MiB does not hold the tables of both: with one argument in place, with two by value.
+mod answer;
+mod by_value;
+mod call;
+mod in_place;
+mod list;
+mod spoiled;
+
+use list::forms::Forms;
+use list::outcome;
+use list::runs;
+use list::runs::Replay;
+
+// The form that is left out is lent tables of one word, which nothing touches.
+fn replay_in_place(nodes: &mut [u32; 1048576], free_nodes: &mut [u32; 131072]) -> Replay {
+    let mut bin_indices = [0u32; 256];
+    let mut used_bins = [0u8; 32];
+    let mut no_nodes = [0u32; 1];
+    let mut no_free_nodes = [0u32; 1];
+    runs::replay_input(
+        Forms::InPlace,
+        &mut bin_indices,
+        &mut used_bins,
+        nodes,
+        free_nodes,
+        &mut no_nodes,
+        &mut no_free_nodes,
+    )
+}
+
+fn replay_by_value(nodes: &mut [u32; 1048576], free_nodes: &mut [u32; 131072]) -> Replay {
+    let mut bin_indices = [0u32; 256];
+    let mut used_bins = [0u8; 32];
+    let mut no_nodes = [0u32; 1];
+    let mut no_free_nodes = [0u32; 1];
+    runs::replay_input(
+        Forms::ByValue,
+        &mut bin_indices,
+        &mut used_bins,
+        &mut no_nodes,
+        &mut no_free_nodes,
+        nodes,
+        free_nodes,
+    )
+}
+
+fn replay_both(
+    nodes: &mut [u32; 8192],
+    free_nodes: &mut [u32; 1024],
+    value_nodes: &mut [u32; 8192],
+    value_free_nodes: &mut [u32; 1024],
+) -> Replay {
+    let mut bin_indices = [0u32; 256];
+    let mut used_bins = [0u8; 32];
+    runs::replay_input(
+        Forms::Both,
+        &mut bin_indices,
+        &mut used_bins,
+        nodes,
+        free_nodes,
+        value_nodes,
+        value_free_nodes,
+    )
+}
+
+fn print_list() {
+    let mut nodes = [0u32; 8192];
+    let mut free_nodes = [0u32; 1024];
+    let mut value_nodes = [0u32; 8192];
+    let mut value_free_nodes = [0u32; 1024];
+    outcome::print_outcome(replay_both(
+        &mut nodes,
+        &mut free_nodes,
+        &mut value_nodes,
+        &mut value_free_nodes,
+    ));
+}
+
+fn print_long(by_value: bool) {
+    let mut nodes = [0u32; 1048576];
+    let mut free_nodes = [0u32; 131072];
+    if by_value {
+        outcome::print_outcome(replay_by_value(&mut nodes, &mut free_nodes));
+    } else {
+        outcome::print_outcome(replay_in_place(&mut nodes, &mut free_nodes));
+    }
+}
+
+// The first argument is the program's own name.
+fn main() {
+    let arguments = os::arg_count();
+    if 1 < arguments {
+        print_long(2 < arguments);
+    } else {
+        print_list();
+        spoiled::print();
+    }
+}

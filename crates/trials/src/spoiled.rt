@@ -1,0 +1,25 @@
+// Every call on heads and tables that were spoiled, drawn from a seed, in both forms; some are sound all the same. Counted is what must never come: a refusal or a question
+// that changed a word, a grant outside the store, two forms that differ. That every call ends is proved, and the run shows it.
+//
+// A round: `spoiling` makes a head with its tables, from `garbage` or from a true store with a few words overwritten; `arguments` draws the
+// calls; `making` makes them, each on a copy; `judging` says what came of them, by `alike` and `numbers`; `tally` counts it, and `printing` prints it.
+mod alike;
+mod arguments;
+mod garbage;
+mod judging;
+mod making;
+mod numbers;
+mod printing;
+mod rounds;
+mod spoiling;
+mod store;
+mod tally;
+
+// Eight calls a round, each in both forms: a hundred thousand calls.
+const ROUNDS: u32 = 12500;
+
+const SEED: u32 = 1;
+
+pub fn print() {
+    printing::print(rounds::run(ROUNDS, SEED));
+}

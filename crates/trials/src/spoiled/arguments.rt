@@ -1,0 +1,63 @@
+// The call that is made on a line of the table, its arguments drawn from a seed.
+use crate::call::Call;
+use crate::spoiled::garbage;
+
+// The lines of the table that is printed.
+pub const SET_UP: u32 = 0;
+
+pub const RESET: u32 = 1;
+
+pub const TAKE: u32 = 2;
+
+pub const HAND_BACK: u32 = 3;
+
+pub const SIZE_QUERY: u32 = 4;
+
+pub const REPORT: u32 = 5;
+
+pub const FULL_REPORT: u32 = 6;
+
+pub const AUDIT: u32 = 7;
+
+// A size: 0, small, as long as a store's, or anything.
+fn size(seed: u32) -> u32 {
+    let drawn = draws::next(seed);
+    match draws::below(seed, 8) {
+        0 => 0,
+        1 | 2 | 3 => draws::below(drawn, 32),
+        4 | 5 | 6 => draws::below(drawn, 4096),
+        _ => draws::word(drawn),
+    }
+}
+
+// A handle: of a record in range most often, just beyond, or anything.
+fn handle(seed: u32) -> u32 {
+    let drawn = draws::next(seed);
+    match draws::below(seed, 8) {
+        0 => draws::word(drawn),
+        1 => draws::below(drawn, 20),
+        _ => draws::below(drawn, 8),
+    }
+}
+
+// A full report, of which one class or the number of classes that hold something is compared.
+fn full_report(seed: u32) -> Call {
+    if draws::below(seed, 2) == 0 {
+        return Call::ClassesHeld;
+    }
+    Call::ClassOf(draws::below(draws::next(seed), 256))
+}
+
+// The audit has no `Call`, and is made apart.
+pub fn call(line: u32, seed: u32) -> Call {
+    match line {
+        SET_UP => Call::SetUp(size(seed), garbage::count(draws::branch(seed, 1))),
+        RESET => Call::Reset,
+        TAKE => Call::Take(size(seed)),
+        HAND_BACK => Call::HandBack(handle(seed)),
+        SIZE_QUERY => Call::SizeOf(handle(seed)),
+        REPORT => Call::Report,
+        FULL_REPORT => full_report(seed),
+        _ => Call::Nothing,
+    }
+}

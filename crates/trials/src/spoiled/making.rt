@@ -1,0 +1,132 @@
+// A call made on a copy of a head with its tables, in each of the two forms.
+use crate::answer::Answer;
+use crate::call::Call;
+use crate::spoiled::store::Store;
+use auditing::AuditAnswer;
+use offset_allocator::head::Head;
+
+// What a call answered, and every word that it left.
+pub struct Made {
+    pub answer: Answer,
+    pub after: Store,
+}
+
+pub fn in_place(call: Call, before: Store) -> Made {
+    let t = before.totals;
+    let mut bin_indices = before.bin_indices;
+    let mut used_bins = before.used_bins;
+    let mut nodes = before.nodes;
+    let mut free_nodes = before.free_nodes;
+    let called = crate::in_place::make(
+        call,
+        t,
+        &mut bin_indices,
+        &mut used_bins,
+        &mut nodes,
+        &mut free_nodes,
+    );
+    let answer = called.answer;
+    let totals = called.totals;
+    let after = Store {
+        totals,
+        bin_indices,
+        used_bins,
+        nodes,
+        free_nodes,
+    };
+    Made { answer, after }
+}
+
+fn head_of(store: Store) -> Head {
+    let t = store.totals;
+    let bin_indices = store.bin_indices;
+    let used_bins = store.used_bins;
+    Head::of(t, used_bins, bin_indices)
+}
+
+fn store_of(head: Head, nodes: [u32; 144], free_nodes: [u32; 16]) -> Store {
+    let totals = head.totals();
+    let bin_indices = head.bin_indices;
+    let used_bins = head.used_bins;
+    Store {
+        totals,
+        bin_indices,
+        used_bins,
+        nodes,
+        free_nodes,
+    }
+}
+
+pub fn by_value(call: Call, before: Store) -> Made {
+    let head = head_of(before);
+    let mut nodes = before.nodes;
+    let mut free_nodes = before.free_nodes;
+    let called = crate::by_value::make(call, head, &mut nodes, &mut free_nodes);
+    let answer = called.answer;
+    let left = called.head;
+    let after = store_of(left, nodes, free_nodes);
+    Made { answer, after }
+}
+
+fn of_audit(answer: AuditAnswer) -> Answer {
+    match answer {
+        AuditAnswer::Sound => Answer::Done,
+        AuditAnswer::Refused(why) => Answer::Refused(why.number()),
+    }
+}
+
+// What stands in every word of the scratch before an audit.
+pub const BEFORE: u32 = 7;
+
+// An audit, and every word of its scratch.
+pub struct Audited {
+    pub made: Made,
+    pub scratch: [u32; 16],
+}
+
+fn ask_in_place(before: Store, scratch: &mut [u32; 16]) -> Made {
+    let totals = before.totals;
+    let bin_indices = before.bin_indices;
+    let used_bins = before.used_bins;
+    let nodes = before.nodes;
+    let free_nodes = before.free_nodes;
+    let given = auditing::audit(
+        totals,
+        &bin_indices,
+        &used_bins,
+        &nodes,
+        &free_nodes,
+        scratch,
+    );
+    let answer = of_audit(given);
+    let after = Store {
+        totals,
+        bin_indices,
+        used_bins,
+        nodes,
+        free_nodes,
+    };
+    Made { answer, after }
+}
+
+fn ask_by_value(before: Store, scratch: &mut [u32; 16]) -> Made {
+    let head = head_of(before);
+    let nodes = before.nodes;
+    let free_nodes = before.free_nodes;
+    let given = head.audit(&nodes, &free_nodes, scratch);
+    let answer = of_audit(given);
+    let after = store_of(head, nodes, free_nodes);
+    Made { answer, after }
+}
+
+pub fn audit_in_place(before: Store) -> Audited {
+    let mut scratch = [BEFORE; 16];
+    let made = ask_in_place(before, &mut scratch);
+    Audited { made, scratch }
+}
+
+pub fn audit_by_value(before: Store) -> Audited {
+    let mut scratch = [BEFORE; 16];
+    let made = ask_by_value(before, &mut scratch);
+    Audited { made, scratch }
+}
