@@ -76,7 +76,8 @@ pub fn grant_part(
     ensures { λ u. ⌜ ((ps : List ℕ) →
         wordsOf u (now («bin_indices» .exit)) (now («used_bins» .exit)) (now (nodes .exit)) ps
         ≡ withTotal (splitting (bound (t .«max_allocs»))
-        (wordsOf t (now («bin_indices» .entry)) (now («used_bins» .entry)) (now (nodes .entry)) ps) size c r offset rest m) (t .«free_storage» - size)) ⌝ }
+        (wordsOf t (now («bin_indices» .entry)) (now («used_bins» .entry)) (now (nodes .entry)) ps)
+        size c r offset rest m) (t .«free_storage» - size)) ⌝ }
 {
     let left = t.free_storage - size;
     let next = nodes::word(nodes, r, nodes::NEIGHBOR_NEXT);

@@ -1,8 +1,10 @@
-// Every call on heads and tables that were spoiled, drawn from a seed, in both forms; some are sound all the same. Counted is what must never come: a refusal or a question
-// that changed a word, a grant outside the store, two forms that differ. That every call ends is proved, and the run shows it.
+// Every call on heads and tables that were spoiled, drawn from a seed, in both forms; some are sound all the same. Counted is what must never
+// come: a refusal or a question that changed a word, a grant outside the store, two forms that differ. That every call ends is proved, and the
+// run shows it.
 //
 // A round: `spoiling` makes a head with its tables, from `garbage` or from a true store with a few words overwritten; `arguments` draws the
-// calls; `making` makes them, each on a copy; `judging` says what came of them, by `alike` and `numbers`; `tally` counts it, and `printing` prints it.
+// calls; `making` makes them, each on a copy; `judging` says what came of them, by `alike` and `numbers`; `tally` counts it, and `printing`
+// prints it.
 mod alike;
 mod arguments;
 mod garbage;

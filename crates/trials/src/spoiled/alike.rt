@@ -28,7 +28,8 @@ fn same_arrays(
     other_heads: [u32; 256],
     other_leaves: [u8; 32],
 ) -> bool
-    ensures { λ r. ⌜ (r ≡ true → (heads ≡ «other_heads») × (leaves ≡ «other_leaves»)) × (heads ≡ «other_heads» → leaves ≡ «other_leaves» → r ≡ true) ⌝ }
+    ensures { λ r. ⌜ (r ≡ true → (heads ≡ «other_heads») × (leaves ≡ «other_leaves»))
+        × (heads ≡ «other_heads» → leaves ≡ «other_leaves» → r ≡ true) ⌝ }
 {
     if !same::words(&heads, &other_heads) {
         return false;
@@ -42,7 +43,8 @@ fn same_tables(
     other_nodes: [u32; 144],
     other_pile: [u32; 16],
 ) -> bool
-    ensures { λ r. ⌜ (r ≡ true → (nodes ≡ «other_nodes») × (pile ≡ «other_pile»)) × (nodes ≡ «other_nodes» → pile ≡ «other_pile» → r ≡ true) ⌝ }
+    ensures { λ r. ⌜ (r ≡ true → (nodes ≡ «other_nodes») × (pile ≡ «other_pile»))
+        × (nodes ≡ «other_nodes» → pile ≡ «other_pile» → r ≡ true) ⌝ }
 {
     if !same::words(&nodes, &other_nodes) {
         return false;

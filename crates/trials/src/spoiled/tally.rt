@@ -64,7 +64,8 @@ impl Tally {
 
     // A call of one form: where it is counted, whether it changed what it had to leave, and whether it granted what is not there.
     pub fn count(self, line: u32, column: u32, changed: bool, outside: bool) -> Tally
-        ensures { λ r. ⌜ (r .changed ≡ 0 → (changed ≡ false) × (self .changed ≡ 0)) × (r .outside ≡ 0 → (outside ≡ false) × (self .outside ≡ 0)) ⌝ }
+        ensures { λ r. ⌜ (r .changed ≡ 0 → (changed ≡ false) × (self .changed ≡ 0))
+            × (r .outside ≡ 0 → (outside ≡ false) × (self .outside ≡ 0)) ⌝ }
     {
         let mut counts = self.counts;
         let i = place(line, column);
