@@ -3,6 +3,7 @@ ghost use mathlib.Core.Path.{_≡_};
 ghost use Prim.Native.Nat.{ℕ, _<_};
 ghost use mathlib.Core.List.{List};
 ghost use lib.ListN.{getD};
+ghost use Rattle.tables.specs.Layout.{dataOffset, dataSize, put};
 ghost use Rattle.tables.specs.Steps.{insertNodes, joinNodes, insertAt, insert};
 ghost use Rattle.bins.specs.InWords.{wordsOf, bound, HasRoom, InTable};
 use crate::nodes;
@@ -10,7 +11,16 @@ use crate::nodes::NONE;
 use crate::totals::Totals;
 use small_float::Size;
 
-// The seven words of record m, and the old top's link back to it.
+// Where the region of record m lies.
+fn write_span(nodes: &mut [u32], m: u32, size: u32, offset: u32)
+    requires { ⌜ InTable m (now nodes) ⌝ }
+    ensures { λ _. ⌜ now (nodes .exit) ≡ put m dataSize size (put m dataOffset offset (now (nodes .entry))) ⌝ }
+{
+    nodes::put(nodes, m, nodes::DATA_OFFSET, offset);
+    nodes::put(nodes, m, nodes::DATA_SIZE, size);
+}
+
+// The seven words of record m, which goes on top of its list, and the old top's link back to it.
 fn write_record(
     nodes: &mut [u32],
     max_allocs: u32,
@@ -25,8 +35,7 @@ fn write_record(
     requires { ⌜ HasRoom «max_allocs» (now nodes) ⌝ }
     ensures { λ _. ⌜ now (nodes .exit) ≡ insertNodes (bound «max_allocs») m size offset «old_top» prev next (now (nodes .entry)) ⌝ }
 {
-    nodes::put(nodes, m, nodes::DATA_OFFSET, offset);
-    nodes::put(nodes, m, nodes::DATA_SIZE, size);
+    write_span(nodes, m, size, offset);
     nodes::put(nodes, m, nodes::BIN_LIST_PREV, NONE);
     nodes::put(nodes, m, nodes::BIN_LIST_NEXT, old_top);
     nodes::put(nodes, m, nodes::NEIGHBOR_PREV, prev);

@@ -1,7 +1,7 @@
 // The lowest class that holds something, by trailing zeros of a leaf byte, then of the top word; the highest bit, by leading zeros.
 ghost use mathlib.Core.Path.{_≡_};
-ghost use Prim.Native.Nat.{_+_, _<_};
-ghost use Rattle.tables.specs.Search.{lowFrom, leafLow, lowInBin, leafOrAbove, findClass, highBit};
+ghost use Prim.Native.Nat.{_+_, _/_, _<_};
+ghost use Rattle.tables.specs.Search.{lowFrom, lowInBin, findClass, highBit};
 
 // No class was found.
 pub const NO_CLASS: u32 = 256;
@@ -18,7 +18,7 @@ pub fn wide(x: u8) -> u32
 // find_lowest_bit_set_after of the Rust: at or after bit i; 32 where there is none.
 fn lowest_bit_set_from(m: u32, i: u32) -> u32
     requires { ⌜ i < 32 ⌝ }
-    ensures { λ r. ⌜ r ≡ lowFrom m i ⌝ }
+    ensures { λ r. ⌜ (r ≡ lowFrom m i) × (r < 64) ⌝ }
 {
     let rest = m >> i;
     if rest == 0 {
@@ -27,40 +27,24 @@ fn lowest_bit_set_from(m: u32, i: u32) -> u32
     i + u32::trailing_zeros(rest)
 }
 
-// The lowest class of top bin t, whose leaf byte is m.
-fn lowest_leaf(t: u32, m: u32) -> u32
-    requires { ⌜ t < 32 ⌝ }
-    ensures { λ r. ⌜ r ≡ leafLow t m ⌝ }
+// The lowest class above the top bin of c: in the next top bin that holds something, and there from leaf 0 on, whatever leaf c has.
+fn lowest_above(used_bins: &[u8; 32], used_bins_top: u32, c: u32) -> u32
+    requires { ⌜ c < 248 ⌝ }
+    ensures { λ r. ⌜ r ≡ lowInBin (now («used_bins» .entry)) (lowFrom «used_bins_top» (c / 8 + 1)) ⌝ }
 {
-    if m == 0 {
-        return BAD_BITS;
-    }
-    8 * t + u32::trailing_zeros(m)
-}
-
-fn lowest_in_bin(used_bins: &[u8; 32], t: u32) -> u32
-    ensures { λ r. ⌜ r ≡ lowInBin (now («used_bins» .entry)) t ⌝ }
-{
+    let t = lowest_bit_set_from(used_bins_top, c / 8 + 1);
     if t < 32 {
         let i = t as usize;
         let m = wide(used_bins[i]);
-        return lowest_leaf(t, m);
+        if m == 0 {
+            return BAD_BITS;
+        }
+        return 8 * t + lowest_bit_set_from(m, 0);
     }
     NO_CLASS
 }
 
-// Leaf l of top bin t, or the lowest leaf of the next top bin that holds something.
-fn leaf_or_above(used_bins: &[u8; 32], used_bins_top: u32, t: u32, l: u32) -> u32
-    requires { ⌜ t < 31 ⌝ }
-    ensures { λ r. ⌜ r ≡ leafOrAbove (now («used_bins» .entry)) «used_bins_top» t l ⌝ }
-{
-    if l < 8 {
-        return 8 * t + l;
-    }
-    lowest_in_bin(used_bins, lowest_bit_set_from(used_bins_top, t + 1))
-}
-
-// The lowest class from c on that holds something.
+// The lowest class from c on that holds something: in the top bin of c from its own leaf on, or above it.
 pub fn find_class(used_bins: &[u8; 32], used_bins_top: u32, c: u32) -> u32
     requires { ⌜ c < 248 ⌝ }
     ensures { λ r. ⌜ r ≡ findClass (now («used_bins» .entry)) «used_bins_top» c ⌝ }
@@ -69,7 +53,10 @@ pub fn find_class(used_bins: &[u8; 32], used_bins_top: u32, c: u32) -> u32
     let i = t as usize;
     let m = wide(used_bins[i]);
     let l = lowest_bit_set_from(m, c % 8);
-    leaf_or_above(used_bins, used_bins_top, t, l)
+    if l < 8 {
+        return 8 * t + l;
+    }
+    lowest_above(used_bins, used_bins_top, c)
 }
 
 // The highest set bit of a word that is not 0.

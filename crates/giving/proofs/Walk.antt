@@ -7,12 +7,15 @@ use Rattle.ledger.specs.Ledger.{Answer, done, refused}
 use Rattle.ledger.specs.Calls.{HandBack}
 use Rattle.tables.specs.Words.{Words, bounds}
 use Rattle.tables.specs.Gate.{gateOf}
-use Rattle.tables.specs.HandBack.{BackPlan, stop, merge, Merged, planBack, merging, doBack, backWords}
+use Rattle.tables.specs.HandBack.{BackPlan, stop, merge, planBack, merging, doBack, backWords}
 use Rattle.tables.specs.Guards.{MergeGuards, BackGuards}
 use Rattle.tables.specs.Calls.{edition32, answerWords}
 use Rattle.tables.proofs.Gate.{gated-open}
 use Rattle.tables.proofs.Guards.{back-guards}
-use Rattle.giving.specs.Answers.{handedBack}
+use Rattle.giving.specs.declared.plan.Merged.{Merged as Joined}
+use Rattle.giving.specs.declared.plan.Planned.{Planned}
+use Rattle.giving.specs.declared.plan.Planned.the-variants.{Merge}
+use Rattle.giving.specs.Answers.{handedBack, mergedIn, planOf, UnderRecord}
 
 -- an answer that is known, beside words
 pub answered : {a b : Answer} (v : Words) → a ≡ b → _≡_ {A = Answer × Words} (a, v) (b, v)
@@ -23,15 +26,27 @@ module _ (w : Words) (r : ℕ) where
   unfolding doBack
   stopped e = ap (λ (p : BackPlan). doBack edition32 w r p) (sym e)
 
-  pub merged-back : {v : Words} {p x : ℕ} {p-free x-free : Bool} {m : Merged} → planBack w r ≡ merge p x p-free x-free m
-      → v ≡ merging (bounds edition32 w) w r p x p-free x-free m → (done, v) ≡ handedBack r w
-  unfolding doBack
-  merged-back e f = ap (λ (u : Words). (done, u)) f ∙ ap (λ (p : BackPlan). doBack edition32 w r p) (sym e)
-
-  pub ready : {p x : ℕ} {p-free x-free : Bool} {m : Merged} → planBack w r ≡ merge p x p-free x-free m
-      → MergeGuards w r p x p-free x-free m
-  ready e = subst (λ (p : BackPlan). BackGuards w r p) e (back-guards w r)
-
   pub let-in : {o : Answer × Words} → gateOf edition32 w ≡ 0 → o ≡ handedBack r w → o ≡ answerWords edition32 (HandBack r) w
   unfolding answerWords backWords
   let-in g e = e ∙ sym (gated-open (gateOf edition32 w) w _ g)
+
+-- g is the model's plan, and it goes on
+module _ (w : Words) (r : ℕ) {g : Planned} {p x : ℕ} {p-free x-free : Bool} {m : Joined} (same-plan : planOf g ≡ planBack w r)
+    (under : UnderRecord r g) (goes-on : g ≡ Merge p x p-free x-free m) where
+  found : planBack w r ≡ merge p x p-free x-free (mergedIn m)
+  found = sym same-plan ∙ ap planOf goes-on
+
+  same-record : m .record ≡ r
+  same-record = subst (λ (h : Planned). UnderRecord r h) goes-on under
+
+  pub merged-back : {v : Words} → v ≡ merging (bounds edition32 w) w (m .record) p x p-free x-free (mergedIn m)
+      → (done, v) ≡ handedBack r w
+  unfolding doBack
+  merged-back f =
+      ap (λ (u : Words). (done, u)) (f ∙ ap (λ (q : ℕ). merging (bounds edition32 w) w q p x p-free x-free (mergedIn m)) same-record)
+      ∙ ap (λ (h : BackPlan). doBack edition32 w r h) (sym found)
+
+  pub ready : MergeGuards w (m .record) p x p-free x-free (mergedIn m)
+  ready =
+      subst (λ (q : ℕ). MergeGuards w q p x p-free x-free (mergedIn m)) (sym same-record)
+      (subst (λ (h : BackPlan). BackGuards w r h) found (back-guards w r))

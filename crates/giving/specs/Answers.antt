@@ -38,8 +38,14 @@ abbrev pub planOf : Planned → BackPlan
 planOf (Stop why) = stop (numberOf why)
 planOf (Merge p x p-free x-free m) = merge p x p-free x-free (mergedIn m)
 
--- what a neighbour adds to a region at this offset: `outward` is the word that links on beyond it
+-- a plan that goes on puts the merged region under record r
+abbrev pub UnderRecord : ℕ → Planned → Type 0
+UnderRecord r (Stop why) = Unit {0}
+UnderRecord r (Merge p x p-free x-free m) = m .record ≡ r
+
+-- a neighbour by its link, and what it adds to a region at this offset: `outward` is the word that links on beyond it
 pub record Beside (nodes : List ℕ) (count link outward offset : ℕ) (s : Side) : Type 0 where
+  pub link-is : s .link ≡ link
   pub free-is : s .free ≡ isFree nodes count link
   pub length-is : s .length ≡ pick (isFree nodes count link) (word nodes dataSize link) 0
   pub offset-is : s .offset ≡ pick (isFree nodes count link) (word nodes dataOffset link) offset

@@ -78,14 +78,13 @@ fn drop_both(
     )
 }
 
-// Record r becomes the merged region; the free total is set once.
+// The merged region is put in under its record; the free total is set once.
 pub fn merge(
     bin_indices: &mut [u32; 256],
     used_bins: &mut [u8; 32],
     nodes: &mut [u32],
     free_nodes: &mut [u32],
     t: Totals,
-    r: u32,
     prev: u32,
     next: u32,
     prev_free: bool,
@@ -94,11 +93,11 @@ pub fn merge(
 ) -> Totals
     requires { ⌜ HasRoom (t .«max_allocs») (now nodes) ⌝ }
     requires { ⌜ t .«max_allocs» ≤ length (now «free_nodes») ⌝ }
-    requires { ⌜ MergeGuards (wordsOf t [] [] (now nodes) []) r prev next «prev_free» «next_free» (mergedIn m) ⌝ }
+    requires { ⌜ MergeGuards (wordsOf t [] [] (now nodes) []) (m .record) prev next «prev_free» «next_free» (mergedIn m) ⌝ }
     ensures { λ u. ⌜ wordsOf u (now («bin_indices» .exit)) (now («used_bins» .exit)) (now (nodes .exit)) (now («free_nodes» .exit))
         ≡ merging (bound (t .«max_allocs»))
         (wordsOf t (now («bin_indices» .entry)) (now («used_bins» .entry)) (now (nodes .entry)) (now («free_nodes» .entry)))
-        r prev next «prev_free» «next_free» (mergedIn m) ⌝ }
+        (m .record) prev next «prev_free» «next_free» (mergedIn m) ⌝ }
 {
     let u = drop_both(
         bin_indices,
@@ -118,7 +117,7 @@ pub fn merge(
         u,
         m.length,
         m.start,
-        r,
+        m.record,
         m.before,
         m.after,
     );

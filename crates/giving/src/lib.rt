@@ -38,7 +38,6 @@ fn carry_out(
     used_bins: &mut [u8; 32],
     nodes: &mut [u32],
     free_nodes: &mut [u32],
-    r: u32,
     prev: u32,
     next: u32,
     prev_free: bool,
@@ -47,12 +46,12 @@ fn carry_out(
 ) -> Returned
     requires { ⌜ HasRoom (t .«max_allocs») (now nodes) ⌝ }
     requires { ⌜ t .«max_allocs» ≤ length (now «free_nodes») ⌝ }
-    requires { ⌜ MergeGuards (wordsOf t [] [] (now nodes) []) r prev next «prev_free» «next_free» (mergedIn m) ⌝ }
+    requires { ⌜ MergeGuards (wordsOf t [] [] (now nodes) []) (m .record) prev next «prev_free» «next_free» (mergedIn m) ⌝ }
     ensures { λ a. ⌜ answerOf (a .answer) ≡ done ⌝ }
     ensures { λ a. ⌜ wordsOf (a .totals) (now («bin_indices» .exit)) (now («used_bins» .exit)) (now (nodes .exit)) (now («free_nodes» .exit))
         ≡ merging (bound (t .«max_allocs»))
         (wordsOf t (now («bin_indices» .entry)) (now («used_bins» .entry)) (now (nodes .entry)) (now («free_nodes» .entry)))
-        r prev next «prev_free» «next_free» (mergedIn m) ⌝ }
+        (m .record) prev next «prev_free» «next_free» (mergedIn m) ⌝ }
 {
     let totals = commit::merge(
         bin_indices,
@@ -60,7 +59,6 @@ fn carry_out(
         nodes,
         free_nodes,
         t,
-        r,
         prev,
         next,
         prev_free,
@@ -98,7 +96,6 @@ fn give_back(
             used_bins,
             nodes,
             free_nodes,
-            r,
             prev,
             next,
             prev_free,

@@ -6,13 +6,14 @@ ghost use mathlib.Core.List.{List, []};
 ghost use Rattle.basics.specs.Sum.{one};
 ghost use Rattle.tables.specs.HandBack.{planMerged, planBack};
 ghost use Rattle.bins.specs.InWords.{wordsOf, HasRoom};
-ghost use Rattle.giving.specs.Answers.{planOf, Beside, joined};
+ghost use Rattle.giving.specs.Answers.{planOf, Beside, joined, UnderRecord};
 use answers::Refusal;
 use bins::nodes;
 use bins::totals::Totals;
 
-// What the merged region will be: its length, its offset, the links to its neighbours, and the free total with it.
+// What the merged region will be: the record it is under, its length, its offset, the links to its neighbours, and the free total with it.
 pub struct Merged {
+    pub record: u32,
     pub length: u32,
     pub start: u32,
     pub before: u32,
@@ -26,8 +27,10 @@ pub enum Planned {
     Merge(u32, u32, bool, bool, Merged),
 }
 
-// What one neighbour adds to the merged region: whether it is free, its length, its offset, and the link beyond it.
+// One neighbour, by its link, which need not be a record, and what it adds to the merged region: whether it is free, its length, its offset,
+// and the link beyond it.
 pub struct Side {
+    pub link: u32,
     pub free: bool,
     pub length: u32,
     pub offset: u32,
@@ -42,6 +45,7 @@ fn beside(nodes: &[u32], max_allocs: u32, link: u32, outward: usize, own_offset:
 {
     if bins::live::is_free(nodes, max_allocs, link) {
         return Side {
+            link: link,
             free: true,
             length: nodes::word(nodes, link, nodes::DATA_SIZE),
             offset: nodes::word(nodes, link, nodes::DATA_OFFSET),
@@ -49,6 +53,7 @@ fn beside(nodes: &[u32], max_allocs: u32, link: u32, outward: usize, own_offset:
         };
     }
     Side {
+        link: link,
         free: false,
         length: 0,
         offset: own_offset,
@@ -65,10 +70,27 @@ fn one_if(b: bool) -> usize
     0
 }
 
+// The merged region keeps the record that is handed back.
+fn merged_under(r: u32, before: Side, after: Side, length: u32, total: u32) -> Merged
+    ensures { λ m. ⌜ (m .record ≡ r) × (m .length ≡ length) × (m .start ≡ before .offset)
+        × (m .before ≡ before .beyond) × (m .after ≡ after .beyond) × (m .total ≡ total) ⌝ }
+{
+    Merged {
+        record: r,
+        length: length,
+        start: before.offset,
+        before: before.beyond,
+        after: after.beyond,
+        total: total,
+    }
+}
+
 // Neither the merged length nor the free total passes the size, and the pile has room. Sums of words are made in usize, which holds them.
-fn plan_merged(t: Totals, prev: u32, next: u32, before: Side, after: Side, own: u32) -> Planned
+fn plan_merged(t: Totals, r: u32, before: Side, after: Side, own: u32) -> Planned
     ensures { λ g. ⌜ planOf g
-        ≡ planMerged (wordsOf t [] [] [] []) prev next (before .free) (after .free) (joined (t .«free_storage») own before after) ⌝ }
+        ≡ planMerged (wordsOf t [] [] [] []) (before .link) (after .link) (before .free) (after .free)
+        (joined (t .«free_storage») own before after) ⌝ }
+    ensures { λ g. ⌜ UnderRecord r g ⌝ }
 {
     let size = t.size as usize;
     let length = (before.length as usize) + (own as usize) + (after.length as usize);
@@ -83,20 +105,15 @@ fn plan_merged(t: Totals, prev: u32, next: u32, before: Side, after: Side, own: 
     if (t.max_allocs as usize) <= pile_top {
         return Planned::Stop(Refusal::Unsound);
     }
-    let m = Merged {
-        length: length as u32,
-        start: before.offset,
-        before: before.beyond,
-        after: after.beyond,
-        total: total as u32,
-    };
-    Planned::Merge(prev, next, before.free, after.free, m)
+    let m = merged_under(r, before, after, length as u32, total as u32);
+    Planned::Merge(before.link, after.link, before.free, after.free, m)
 }
 
 // What a hand-back of record r finds: refused with 5 if it is not live.
 pub fn plan(t: Totals, nodes: &[u32], r: u32) -> Planned
     requires { ⌜ HasRoom (t .«max_allocs») (now nodes) ⌝ }
     ensures { λ g. ⌜ ((heads leaves pile : List ℕ) → planOf g ≡ planBack (wordsOf t heads leaves (now (nodes .entry)) pile) r) ⌝ }
+    ensures { λ g. ⌜ UnderRecord r g ⌝ }
 {
     let max_allocs = t.max_allocs;
     if bins::live::is_live(nodes, max_allocs, r) {
@@ -106,7 +123,7 @@ pub fn plan(t: Totals, nodes: &[u32], r: u32) -> Planned
         let before = beside(nodes, max_allocs, prev, nodes::NEIGHBOR_PREV, offset);
         let after = beside(nodes, max_allocs, next, nodes::NEIGHBOR_NEXT, offset);
         let own = nodes::word(nodes, r, nodes::DATA_SIZE);
-        return plan_merged(t, prev, next, before, after, own);
+        return plan_merged(t, r, before, after, own);
     }
     Planned::Stop(Refusal::NotLive)
 }

@@ -5,11 +5,12 @@ ghost use Prim.Native.Nat.{ℕ, _≤_};
 ghost use lib.ListN.{length};
 ghost use Rattle.ledger.specs.Ledger.{refused};
 ghost use Rattle.ledger.specs.Calls.{Reset};
+ghost use Rattle.tables.specs.Steps.{insert};
 ghost use Rattle.tables.specs.Setup.{fresh, zeros};
 ghost use Rattle.tables.specs.Calls.{edition32};
 ghost use Rattle.tables.specs.Promise.{Promise, SetupPromise};
 ghost use Rattle.answers.specs.Refusals.{numberOf};
-ghost use Rattle.bins.specs.InWords.{wordsOf, HasRoom};
+ghost use Rattle.bins.specs.InWords.{wordsOf, bound, HasRoom};
 ghost use Rattle.starting.specs.Answers.{answerOf, outcomeOf};
 use answers::Refusal;
 use bins::gate::Gate;
@@ -32,6 +33,24 @@ pub struct Started {
 
 // The count of records that `new` sets up with: 128 * 1024.
 pub const DEFAULT_MAX_ALLOCS: u32 = 131072;
+
+// The whole size is one free region, under record 0: nothing is cut before it is asked for.
+fn one_region(
+    bin_indices: &mut [u32; 256],
+    used_bins: &mut [u8; 32],
+    nodes: &mut [u32],
+    t: Totals,
+    size: u32,
+) -> Totals
+    requires { ⌜ 1 ≤ t .«max_allocs» ⌝ }
+    requires { ⌜ HasRoom (t .«max_allocs») (now nodes) ⌝ }
+    ensures { λ u. ⌜ ((pile : List ℕ) →
+        wordsOf u (now («bin_indices» .exit)) (now («used_bins» .exit)) (now (nodes .exit)) pile
+        ≡ insert (bound (t .«max_allocs»))
+        (wordsOf t (now («bin_indices» .entry)) (now («used_bins» .entry)) (now (nodes .entry)) pile) size 0 0 4294967295 4294967295) ⌝ }
+{
+    bins::insert::insert_node_into_bin(bin_indices, used_bins, nodes, t, size, 0, 0, NONE, NONE)
+}
 
 // Behind the gate: every record spare but record 0, which is one free region of the whole size.
 fn start_afresh(
@@ -60,7 +79,7 @@ fn start_afresh(
         used_bins_top: 0,
     };
     let t = bins::pile::pop(blank);
-    bins::insert::insert_node_into_bin(bin_indices, used_bins, nodes, t, size, 0, 0, NONE, NONE)
+    one_region(bin_indices, used_bins, nodes, t, size)
 }
 
 // A refused setup leaves a head of zeros, whose count of 0 makes every later call on it a refusal.

@@ -20,10 +20,9 @@ carry-out-requires : tie.Need-carry-out-requires
 carry-out-requires c κs =
     let found = c .before .before .before .before .before in
     let planned = found .before .before in
-    let start = planned .before .before .before .before in (
-      start .pre .0,
-      (start .pre .1, ready _ _ (sym (planned .plan .ensures [] [] []) ∙ ap planOf (found .prev .given .1))),
-    )
+    let start = planned .before .before .before .before in
+    let plan = planned .plan .ensures in
+    (start .pre .0, (start .pre .1, ready _ _ (plan .0 [] [] []) (plan .1) (found .prev .given .1)))
 
 same-length : tie.Need-same-length
 same-length c = search needs
@@ -31,7 +30,7 @@ same-length c = search needs
 returns : tie.Need-returns
 returns c =
     let found = c .before in
-    stopped _ _ (sym (found .before .before .plan .ensures _ _ _) ∙ ap planOf (found .why .given .1))
+    stopped _ _ (sym (found .before .before .plan .ensures .0 _ _ _) ∙ ap planOf (found .why .given .1))
 
 same-length-2 : tie.Need-same-length-2
 same-length-2 c = search needs
@@ -43,9 +42,9 @@ returns-2 : tie.Need-returns-2
 returns-2 c =
     let put = c .before .before .before .before in
     let found = put .before .before .before .before .before .before in
+    let plan = found .before .before .plan .ensures in
     let done = put .carry-out .ensures in
-    answered _ (done .0)
-    ∙ merged-back _ _ (sym (found .before .before .plan .ensures _ _ _) ∙ ap planOf (found .prev .given .1)) (done .1)
+    answered _ (done .0) ∙ merged-back _ _ (plan .0 _ _ _) (plan .1) (found .prev .given .1) (done .1)
 
 pub give-back-spec : {M : Type 1} → statement M
 give-back-spec =

@@ -28,9 +28,9 @@ sub-t16 c = search needs
 pop-requires : tie.Need-pop-requires
 pop-requires c κs = search needs
 
-insert-node-into-bin-requires : tie.Need-insert-node-into-bin-requires
+one-region-requires : tie.Need-one-region-requires
 unfolding popPile
-insert-node-into-bin-requires c κs =
+one-region-requires c κs =
     let popped = c .before .before .before in
     let t = ap (λ (w : Words). w .count) (popped .pop .ensures [] [] [] []) in
     let marked = popped .before .before .before .before .before .before .before in
@@ -55,7 +55,7 @@ returns c =
     afresh _ _ _ _
     (rw (piled .pile-up .ensures, marked .mark-not-live .ensures, bits .clear-used-bins .ensures, tops .clear-bin-indices .ensures))
     (popped .pop .ensures _ _ _ _)
-    (put .insert-node-into-bin .ensures _)
+    (put .one-region .ensures _)
 
 pub start-afresh-spec : {M : Type 1} → statement M
 start-afresh-spec =
@@ -67,7 +67,7 @@ start-afresh-spec =
     pile-up-requires
     sub-t16
     pop-requires
-    insert-node-into-bin-requires
+    one-region-requires
     same-length
     same-length-2
     returns)

@@ -1,5 +1,6 @@
 -- The code is `findClass`. Assumes nothing.
-use Rattle.tables.specs.Search.{findClass}
+use borrow.Author.Tests.{lt-ltb, le-ltb}
+use Rattle.tables.specs.Search.{leafOrAbove, findClass}
 use borrow.Author.Needs.{needs}
 use Rattle.bins.proofs.search.find_class.Statement.{statement}
 use Rattle.bins.proofs.search.find_class.Tie as tie
@@ -16,12 +17,32 @@ wide-requires c κs = search needs
 lowest-bit-set-from-requires : tie.Need-lowest-bit-set-from-requires
 lowest-bit-set-from-requires c κs = search needs
 
-leaf-or-above-requires : tie.Need-leaf-or-above-requires
-leaf-or-above-requires c κs = search needs
+mul-result : tie.Need-mul-result
+mul-result c = search needs
+
+add-result : tie.Need-add-result
+add-result c = search needs
 
 returns : tie.Need-returns
-unfolding findClass
-returns c = rw (c .leaf-or-above .ensures, c .before .lowest-bit-set-from .ensures, c .before .before .wide .ensures)
+unfolding findClass leafOrAbove
+returns c =
+    let leaf = c .before in
+    rw (← (leaf .before .wide .ensures), ← (leaf .lowest-bit-set-from .ensures .0), lt-ltb _ _ (c .if1 .taken))
+
+lowest-above-requires : tie.Need-lowest-above-requires
+lowest-above-requires c κs = search needs
+
+returns-2 : tie.Need-returns-2
+unfolding findClass leafOrAbove
+returns-2 c =
+    let test = c .before in
+    let leaf = test .before in
+    rw (
+      c .lowest-above .ensures,
+      ← (leaf .before .wide .ensures),
+      ← (leaf .lowest-bit-set-from .ensures .0),
+      le-ltb _ _ (test .if1 .left),
+    )
 
 pub find-class-spec : {M : Type 1} → statement M
 find-class-spec =
@@ -31,5 +52,8 @@ find-class-spec =
     element-copy-out-wide
     wide-requires
     lowest-bit-set-from-requires
-    leaf-or-above-requires
-    returns)
+    mul-result
+    add-result
+    returns
+    lowest-above-requires
+    returns-2)

@@ -35,7 +35,7 @@ returns c =
     let dropped = put .before .before .before .before .before .before .before .before in
     let a = dropped .before .before .before .before .before .before .before .args in
     rw (c .with-free-storage .ensures)
-    (merged _ (a .prev) (a .next) (a .prev-free) (a .next-free) (dropped .drop-both .ensures) (a .r) (mergedIn (a .m))
+    (merged _ (a .prev) (a .next) (a .prev-free) (a .next-free) (dropped .drop-both .ensures) (a .m .record) (mergedIn (a .m))
     (put .insert-node-into-bin .ensures _))
 
 pub merge-spec : {M : Type 1} → statement M

@@ -1,6 +1,6 @@
 -- A free neighbour is below the count, so its words are in the table. Assumes nothing.
 use Prim.Native.Nat.{ℕ, _≤_, _<_}
-use mathlib.Core.Path.{_≡_, sym, _∙_, subst}
+use mathlib.Core.Path.{_≡_, refl, sym, _∙_, subst}
 use mathlib.Core.Bool.{Bool, true}
 use mathlib.Core.List.{List}
 use Rattle.basics.specs.Sum.{one}
@@ -40,6 +40,7 @@ returns c =
     let test = c .before .before .before in
     let taken = sym (test .before .is-free .ensures) ∙ test .if1 .taken in
     record {
+      link-is = refl;
       free-is = sym taken;
       length-is = rw (taken, c .before .before .word .ensures);
       offset-is = rw (taken, c .before .word2 .ensures);
@@ -49,7 +50,7 @@ returns c =
 returns-2 : tie.Need-returns-2
 returns-2 c =
     let left = sym (c .before .is-free .ensures) ∙ c .if1 .left in
-    record { free-is = sym left; length-is = rw left; offset-is = rw left; beyond-is = rw left }
+    record { link-is = refl; free-is = sym left; length-is = rw left; offset-is = rw left; beyond-is = rw left }
 
 pub beside-spec : {M : Type 1} → statement M
 beside-spec =

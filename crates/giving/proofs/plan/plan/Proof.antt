@@ -46,24 +46,28 @@ plan-merged-requires c κs = search needs
 
 returns : tie.Need-returns
 unfolding planMerged
-returns c heads leaves pile =
+returns c =
     let after = c .before .before in
     let before = after .before in
     let start = before .before in
     let test = c .before .before .before .before .before .before .before in
-    c .plan-merged .ensures
-    ∙ sides-planned _ _
-    (sym (test .before .is-live .ensures) ∙ test .if1 .taken)
-    (start .before .before .word .ensures)
-    (start .before .word2 .ensures)
-    (start .word3 .ensures)
-    (c .before .word4 .ensures)
-    (before .beside .ensures)
-    (after .beside2 .ensures)
+    let merged = c .plan-merged .ensures in (
+      λ heads leaves pile.
+          merged .0
+          ∙ sides-planned _ _
+          (sym (test .before .is-live .ensures) ∙ test .if1 .taken)
+          (start .before .before .word .ensures)
+          (start .before .word2 .ensures)
+          (start .word3 .ensures)
+          (c .before .word4 .ensures)
+          (before .beside .ensures)
+          (after .beside2 .ensures),
+      merged .1,
+    )
 
 returns-2 : tie.Need-returns-2
 unfolding planBack
-returns-2 c heads leaves pile = rw (← (c .before .is-live .ensures), c .if1 .left)
+returns-2 c = (λ heads leaves pile. rw (← (c .before .is-live .ensures), c .if1 .left), search needs)
 
 pub plan-spec : {M : Type 1} → statement M
 plan-spec =

@@ -22,7 +22,7 @@ add-length-2 c = search needs
 
 returns : tie.Need-returns
 unfolding planMerged
-returns c = rw (lt-ltb _ _ (c .if1 .taken))
+returns c = (rw (lt-ltb _ _ (c .if1 .taken)), search needs)
 
 cast-total : tie.Need-cast-total
 cast-total c = search needs
@@ -32,7 +32,7 @@ add-total c = search needs
 
 returns-2 : tie.Need-returns-2
 unfolding planMerged
-returns-2 c = rw (le-ltb _ _ (c .before .before .if1 .left), lt-ltb _ _ (c .if2 .taken))
+returns-2 c = (rw (le-ltb _ _ (c .before .before .if1 .left), lt-ltb _ _ (c .if2 .taken)), search needs)
 
 cast-pile-top : tie.Need-cast-pile-top
 cast-pile-top c = search needs
@@ -56,32 +56,46 @@ returns-3 : tie.Need-returns-3
 unfolding planMerged
 returns-3 c =
     let room = c .before .before in
-    let total = room .before .before .before in
-    rw (
-      le-ltb _ _ (total .before .before .if1 .left),
-      le-ltb _ _ (total .if2 .left),
-      ← (room .before .one-if .ensures .0),
-      ← (room .one-if2 .ensures .0),
-      le-ltb _ _ (c .if3 .taken),
+    let total = room .before .before .before in (
+      rw (
+        le-ltb _ _ (total .before .before .if1 .left),
+        le-ltb _ _ (total .if2 .left),
+        ← (room .before .one-if .ensures .0),
+        ← (room .one-if2 .ensures .0),
+        le-ltb _ _ (c .if3 .taken),
+      ),
+      search needs,
     )
 
-cast-t20 : tie.Need-cast-t20
-cast-t20 c = search needs
+cast-merged-under : tie.Need-cast-merged-under
+cast-merged-under c = search needs
 
-cast-t21 : tie.Need-cast-t21
-cast-t21 c = search needs
+cast-merged-under-2 : tie.Need-cast-merged-under-2
+cast-merged-under-2 c = search needs
+
+merged-under-requires : tie.Need-merged-under-requires
+merged-under-requires c κs = search needs
 
 returns-4 : tie.Need-returns-4
 unfolding planMerged
 returns-4 c =
-    let room = c .before .before in
-    let total = room .before .before .before in
-    rw (
-      le-ltb _ _ (total .before .before .if1 .left),
-      le-ltb _ _ (total .if2 .left),
-      ← (room .before .one-if .ensures .0),
-      ← (room .one-if2 .ensures .0),
-      lt-ltb _ _ (c .if3 .left),
+    let is = c .merged-under .ensures in
+    let test = c .before in
+    let room = test .before .before in
+    let total = room .before .before .before in (
+      rw (
+        le-ltb _ _ (total .before .before .if1 .left),
+        le-ltb _ _ (total .if2 .left),
+        ← (room .before .one-if .ensures .0),
+        ← (room .one-if2 .ensures .0),
+        lt-ltb _ _ (test .if3 .left),
+        is .1,
+        is .2,
+        is .3,
+        is .4,
+        is .5,
+      ),
+      is .0,
     )
 
 pub plan-merged-spec : {M : Type 1} → statement M
@@ -104,6 +118,7 @@ plan-merged-spec =
     add-pile-top-2
     cast-if3
     returns-3
-    cast-t20
-    cast-t21
+    cast-merged-under
+    cast-merged-under-2
+    merged-under-requires
     returns-4)

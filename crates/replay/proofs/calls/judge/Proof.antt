@@ -7,18 +7,14 @@ use Rattle.replay.proofs.calls.judge.Tie as tie
 
 returns : tie.Need-returns
 unfolding callVerdict
-returns c =
-    let given = c .before .before .before .args in
-    rw (ne-eqb (given .row .letter) (given .said .letter) (c .if1 .taken))
+returns c = rw (ne-eqb _ _ (c .if1 .taken))
 
 judge-numbers-requires : tie.Need-judge-numbers-requires
 judge-numbers-requires c κs = search needs
 
 returns-2 : tie.Need-returns-2
 unfolding callVerdict
-returns-2 c =
-    let given = c .before .before .before .before .args in
-    rw (eq-eqb (given .row .letter) (given .said .letter) (c .before .if1 .left)) (c .judge-numbers .ensures)
+returns-2 c = rw (eq-eqb _ _ (c .before .if1 .left)) (c .judge-numbers .ensures)
 
 pub judge-spec : {M : Type 1} → statement M
 judge-spec = tie.close (tie.spec returns judge-numbers-requires returns-2)
