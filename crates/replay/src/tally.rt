@@ -20,7 +20,7 @@ pub struct Tally {
 }
 
 // A counter's next number.
-fn one_more(n: u64) -> u64
+pub fn one_more(n: u64) -> u64
     ensures { λ r. ⌜ r ≡ oneMore n ⌝ }
 {
     if n == u64::MAX {

@@ -1,8 +1,8 @@
 // The calls by value: the head goes in and comes out, and the tables are lent.
 use crate::answer;
-use crate::answer::Answer;
-use crate::call::Call;
 use answers::Handle;
+use judging::answer::Answer;
+use judging::call::Call;
 use offset_allocator::head::Head;
 use small_float::Size;
 

@@ -1,9 +1,9 @@
 // The calls in place: the scalars of the head by value, its two arrays and the tables lent.
 use crate::answer;
-use crate::answer::Answer;
-use crate::call::Call;
 use answers::Handle;
 use bins::totals::Totals;
+use judging::answer::Answer;
+use judging::call::Call;
 use small_float::Size;
 
 pub struct Called {

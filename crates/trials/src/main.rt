@@ -6,7 +6,6 @@
 // 8 MiB does not hold the tables of both: with one argument in place, with two by value.
 mod answer;
 mod by_value;
-mod call;
 mod in_place;
 mod list;
 mod spoiled;

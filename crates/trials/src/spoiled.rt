@@ -3,19 +3,14 @@
 // run shows it.
 //
 // A round: `spoiling` makes a head with its tables, from `garbage` or from a true store with a few words overwritten; `arguments` draws the
-// calls; `making` makes them, each on a copy; `judging` says what came of them, by `alike` and `numbers`; `tally` counts it, and `printing`
-// prints it.
-mod alike;
+// calls; `making` makes them, each on a copy; the library `judging` says what came of them and counts it, by `columns`; and `printing` prints it.
 mod arguments;
+mod columns;
 mod garbage;
-mod judging;
 mod making;
-mod numbers;
 mod printing;
 mod rounds;
 mod spoiling;
-mod store;
-mod tally;
 
 // Eight calls a round, each in both forms: a hundred thousand calls.
 const ROUNDS: u32 = 12500;

@@ -1,5 +1,5 @@
 // Which forms of the calls are replayed. Both together are the rule; where the tables leave no room for a second set it is one.
-use crate::call::Call;
+use judging::call::Call;
 use replay::tally::Verdict;
 
 pub enum Forms {

@@ -1,7 +1,7 @@
 // A row of the list of runs: the call that it stands for, and what the port answered to a call as the row that it would write. What was asked is
 // written as it was asked; what was answered, as the port answered it. oracle/README.md has the letters.
-use crate::answer::Answer;
-use crate::call::Call;
+use judging::answer::Answer;
+use judging::call::Call;
 use replay::calls::Said;
 use replay::rows::Reader;
 

@@ -1,11 +1,11 @@
 // The list of runs, replayed: each row's call is made in place and by value, or in one of the forms, each on tables of its own, and a row agrees only
 // if every form that is made answers as it says.
 use crate::by_value;
-use crate::call::Call;
 use crate::in_place;
 use crate::list::forms::Forms;
 use crate::list::rows;
 use bins::totals::Totals;
+use judging::call::Call;
 use libc::STDIN_FILENO;
 use offset_allocator::head::Head;
 use replay::rows::Reader;

@@ -1,7 +1,7 @@
 // Words, bytes and scalars that are drawn: at random, or so that links often name a record and now and then lead nowhere.
-use crate::spoiled::store::RECORDS;
 use bins::nodes::NONE;
 use bins::totals::Totals;
+use judging::store::RECORDS;
 
 // A seed for each word of a table: three on, so that no two words share one.
 fn third_next(seed: u32) -> u32 {

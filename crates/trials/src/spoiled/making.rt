@@ -1,15 +1,12 @@
 // A call made on a copy of a head with its tables, in each of the two forms.
-use crate::answer::Answer;
-use crate::call::Call;
-use crate::spoiled::store::Store;
 use auditing::AuditAnswer;
+use judging::answer::Answer;
+use judging::audits;
+use judging::audits::Audited;
+use judging::call::Call;
+use judging::made::Made;
+use judging::store::Store;
 use offset_allocator::head::Head;
-
-// What a call answered, and every word that it left.
-pub struct Made {
-    pub answer: Answer,
-    pub after: Store,
-}
 
 pub fn in_place(call: Call, before: Store) -> Made {
     let t = before.totals;
@@ -75,15 +72,6 @@ fn of_audit(answer: AuditAnswer) -> Answer {
     }
 }
 
-// What stands in every word of the scratch before an audit.
-pub const BEFORE: u32 = 7;
-
-// An audit, and every word of its scratch.
-pub struct Audited {
-    pub made: Made,
-    pub scratch: [u32; 16],
-}
-
 fn ask_in_place(before: Store, scratch: &mut [u32; 16]) -> Made {
     let totals = before.totals;
     let bin_indices = before.bin_indices;
@@ -120,13 +108,13 @@ fn ask_by_value(before: Store, scratch: &mut [u32; 16]) -> Made {
 }
 
 pub fn audit_in_place(before: Store) -> Audited {
-    let mut scratch = [BEFORE; 16];
+    let mut scratch = [audits::BEFORE; 16];
     let made = ask_in_place(before, &mut scratch);
     Audited { made, scratch }
 }
 
 pub fn audit_by_value(before: Store) -> Audited {
-    let mut scratch = [BEFORE; 16];
+    let mut scratch = [audits::BEFORE; 16];
     let made = ask_by_value(before, &mut scratch);
     Audited { made, scratch }
 }

@@ -1,7 +1,7 @@
 // The table of what came of the calls, written to standard output.
 use crate::spoiled::arguments;
-use crate::spoiled::tally;
-use crate::spoiled::tally::Tally;
+use crate::spoiled::columns;
+use judging::tally::Tally;
 use libc::STDOUT_FILENO;
 
 fn write(text: &[u8]) {
@@ -49,7 +49,7 @@ fn row(name: &[u8], tally: Tally, line: u32) {
     write(name);
     cell(made(tally, line));
     cell(tally.calls(line, 0));
-    cell(tally.calls(line, tally::ON_SOUND));
+    cell(tally.calls(line, columns::ON_SOUND));
     cell(tally.calls(line, 1));
     cell(tally.calls(line, 2));
     cell(tally.calls(line, 3));

@@ -1,15 +1,15 @@
 // A round: one head with its tables, spoiled, and every call made on it in both forms.
-use crate::call::Call;
-use crate::spoiled::alike;
 use crate::spoiled::arguments;
-use crate::spoiled::judging;
+use crate::spoiled::columns;
 use crate::spoiled::making;
-use crate::spoiled::making::Audited;
-use crate::spoiled::making::Made;
 use crate::spoiled::spoiling;
-use crate::spoiled::store;
-use crate::spoiled::store::Store;
-use crate::spoiled::tally::Tally;
+use judging::audits;
+use judging::audits::Audited;
+use judging::call::Call;
+use judging::checks;
+use judging::made::Made;
+use judging::store::Store;
+use judging::tally::Tally;
 
 // The tables that a round's calls are made on, and whether the audit calls them sound in spite of all.
 struct Round {
@@ -23,9 +23,9 @@ fn count_form(tally: Tally, line: u32, call: Call, round: Round, made: Made) -> 
     let t = before.totals;
     tally.count(
         line,
-        judging::column(answer, round.on_sound),
-        judging::has_changed(call, before, made),
-        judging::is_outside(call, answer, t.size),
+        columns::column(answer, round.on_sound),
+        checks::has_changed(call, before, made),
+        checks::is_outside(call, answer, t.size),
     )
 }
 
@@ -36,58 +36,7 @@ fn make_call(tally: Tally, line: u32, call: Call, round: Round) -> Tally {
     let valued = making::by_value(call, before);
     let first = count_form(tally, line, call, round, placed);
     let both = count_form(first, line, call, round, valued);
-    both.compare(judging::differ(placed, valued))
-}
-
-// How many words of the scratch an audit clears: those below the count, if the count is one that the tables and the scratch have room for.
-fn cleared(count: u32) -> usize {
-    if count < 2 {
-        return 0;
-    }
-    if store::RECORDS < count {
-        return 0;
-    }
-    count as usize
-}
-
-// A word of the scratch as an audit leaves it.
-fn is_left(word: u32, i: usize, cleared: usize) -> bool {
-    if i < cleared {
-        return word == 0;
-    }
-    word == making::BEFORE
-}
-
-fn scratch_is_left(scratch: &[u32; 16], cleared: usize) -> bool {
-    for i in 0..16 {
-        if !is_left(scratch[i], i, cleared) {
-            return false;
-        }
-    }
-    true
-}
-
-// The audit is a question that writes to its scratch: every other word stays.
-fn has_changed(before: Store, audited: Audited) -> bool {
-    let made = audited.made;
-    let after = made.after;
-    let scratch = audited.scratch;
-    let t = before.totals;
-    if !scratch_is_left(&scratch, cleared(t.max_allocs)) {
-        return true;
-    }
-    !alike::same_store(before, after)
-}
-
-fn audits_differ(placed: Audited, valued: Audited) -> bool {
-    let scratch = placed.scratch;
-    let other_scratch = valued.scratch;
-    let made = placed.made;
-    let other = valued.made;
-    if !same::words(&scratch, &other_scratch) {
-        return true;
-    }
-    judging::differ(made, other)
+    both.compare(checks::differ(placed, valued))
 }
 
 fn count_audit(tally: Tally, round: Round, audited: Audited) -> Tally {
@@ -96,8 +45,8 @@ fn count_audit(tally: Tally, round: Round, audited: Audited) -> Tally {
     let answer = made.answer;
     tally.count(
         arguments::AUDIT,
-        judging::column(answer, round.on_sound),
-        has_changed(before, audited),
+        columns::column(answer, round.on_sound),
+        audits::has_changed(before, audited),
         false,
     )
 }
@@ -109,7 +58,7 @@ fn make_audit(tally: Tally, round: Round) -> Tally {
     let valued = making::audit_by_value(before);
     let first = count_audit(tally, round, placed);
     let both = count_audit(first, round, valued);
-    both.compare(audits_differ(placed, valued))
+    both.compare(audits::differ(placed, valued))
 }
 
 // Every call once, in both forms.
@@ -128,7 +77,7 @@ fn is_sound(store: Store) -> bool {
     let audited = making::audit_in_place(store);
     let made = audited.made;
     let answer = made.answer;
-    judging::column(answer, false) == 0
+    columns::column(answer, false) == 0
 }
 
 fn begin(seed: u32) -> Round {

@@ -1,9 +1,9 @@
 // Heads and tables that are not sound, each from a seed: at random, of likely links, or a true store of which a few words are overwritten.
-use crate::call::Call;
 use crate::spoiled::garbage;
 use crate::spoiled::making;
-use crate::spoiled::store::Store;
 use bins::totals::Totals;
+use judging::call::Call;
+use judging::store::Store;
 
 fn blank() -> Store {
     let totals = Totals {

@@ -1,0 +1,36 @@
+-- How calls are counted, and what a counter of 0 says. Assumes nothing.
+use mathlib.Core.Path.{_≡_}
+use mathlib.Core.Bool.{Bool, false}
+use Prim.Native.Nat.{ℕ, _+_, _*_, _%_}
+use lib.ListN.{getD, set, replicate}
+use Rattle.tables.specs.Layout.{pick}
+use Rattle.replay.specs.Tally.{oneMore}
+use Rattle.judging.specs.declared.tally.Tally.{Tally}
+
+-- eight lines of nine columns, one after the other
+abbrev pub cell : (line column : ℕ) → ℕ
+cell line column = line % 8 * 9 + column % 9
+
+-- a counter, raised or left
+abbrev pub oneMoreIf : Bool → ℕ → ℕ
+oneMoreIf raised n = pick raised (oneMore n) n
+
+abbrev pub nothingCounted : Tally
+nothingCounted = record { counts = replicate 72 0; changed = 0; outside = 0; differ = 0 }
+
+-- a call of one form, by where it is counted, whether it changed a word and whether its grant lies outside
+abbrev pub counted : Tally → (line column : ℕ) → (changed outside : Bool) → Tally
+counted t line column changed outside = record {
+  counts = set (t .counts) (cell line column) (oneMore (getD (t .counts) (cell line column) 0));
+  changed = oneMoreIf changed (t .changed);
+  outside = oneMoreIf outside (t .outside);
+  differ = t .differ;
+}
+
+-- a call of which both forms have been made, by whether they differ
+abbrev pub compared : Tally → Bool → Tally
+compared t differ = record { counts = t .counts; changed = t .changed; outside = t .outside; differ = oneMoreIf differ (t .differ) }
+
+-- a counter that is 0 in the end was never raised
+abbrev pub NeverRaised : Type 0
+NeverRaised = (raised : Bool) (n : ℕ) → oneMoreIf raised n ≡ 0 → (raised ≡ false) × (n ≡ 0)

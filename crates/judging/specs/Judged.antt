@@ -1,0 +1,99 @@
+-- What is held against each call: which calls must leave every word, and what those words are; that a grant lies in the store. Assumes nothing.
+use mathlib.Core.Path.{_≡_}
+use mathlib.Core.Bool.{Bool, true, false}
+use Prim.Native.Nat.{ℕ, _+_}
+use lib.Dec.{ltb}
+use lib.ListN.{replicate}
+use Rattle.tables.specs.Layout.{pick}
+use Rattle.judging.specs.declared.answer.Answer.{Answer}
+use Rattle.judging.specs.declared.answer.Answer.the-variants as answer
+use Rattle.judging.specs.declared.call.Call.{Call}
+use Rattle.judging.specs.declared.call.Call.the-variants as call
+use Rattle.judging.specs.declared.numbers.Figures.{Figures}
+use Rattle.judging.specs.declared.store.Store.{Store}
+
+-- an answer as numbers: its kind, and the one or two that it holds
+abbrev pub inNumbers : Answer → Figures
+inNumbers answer.Done = record { kind = 0; first = 0; second = 0 }
+inNumbers (answer.Granted offset number) = record { kind = 1; first = offset; second = number }
+inNumbers (answer.Length length) = record { kind = 2; first = length; second = 0 }
+inNumbers (answer.Free total largest) = record { kind = 3; first = total; second = largest }
+inNumbers (answer.Regions value regions) = record { kind = 4; first = value; second = regions }
+inNumbers (answer.Held classes) = record { kind = 5; first = classes; second = 0 }
+inNumbers (answer.Refused number) = record { kind = 6; first = number; second = 0 }
+inNumbers answer.Nothing = record { kind = 7; first = 0; second = 0 }
+
+abbrev pub isRefused : Answer → Bool
+isRefused answer.Done = false
+isRefused (answer.Granted offset number) = false
+isRefused (answer.Length length) = false
+isRefused (answer.Free total largest) = false
+isRefused (answer.Regions value regions) = false
+isRefused (answer.Held classes) = false
+isRefused (answer.Refused number) = true
+isRefused answer.Nothing = false
+
+abbrev pub isQuestion : Call → Bool
+isQuestion (call.SetUp size count) = false
+isQuestion call.Reset = false
+isQuestion (call.Take size) = false
+isQuestion (call.HandBack number) = false
+isQuestion (call.SizeOf number) = true
+isQuestion call.Report = true
+isQuestion (call.ClassOf class) = true
+isQuestion call.ClassesHeld = true
+isQuestion call.Nothing = true
+
+-- a refused call and a question leave every word
+abbrev pub mustKeep : Call → Answer → Bool
+mustKeep c a = pick (isRefused a) true (isQuestion c)
+
+-- the same tables under a head of zeros
+abbrev pub noHead : Store → Store
+noHead s = record {
+  totals = record { size = 0; «max_allocs» = 0; «free_storage» = 0; «free_offset» = 0; «used_bins_top» = 0 };
+  «bin_indices» = replicate 256 0;
+  «used_bins» = replicate 32 0;
+  nodes = s .nodes;
+  «free_nodes» = s .«free_nodes»;
+}
+
+-- what a call that must leave every word leaves; a setup has no head to leave, and where it is refused makes one of zeros
+abbrev pub leftBy : Call → Store → Store
+leftBy (call.SetUp size count) s = noHead s
+leftBy call.Reset s = s
+leftBy (call.Take size) s = s
+leftBy (call.HandBack number) s = s
+leftBy (call.SizeOf number) s = s
+leftBy call.Report s = s
+leftBy (call.ClassOf class) s = s
+leftBy call.ClassesHeld s = s
+leftBy call.Nothing s = s
+
+-- every word is left that must be: `changed` is the judgement
+pub record Kept (c : Call) (a : Answer) (before after : Store) (changed : Bool) : Type 0 where
+  pub kept : mustKeep c a ≡ true → changed ≡ false → after ≡ leftBy c before
+  pub blamed : changed ≡ true → (mustKeep c a ≡ true) × (after ≡ leftBy c before → ⊥)
+
+-- whether an answer grants a span of this size that does not lie in a store of this size
+abbrev pub grantOutside : Answer → (size store : ℕ) → Bool
+grantOutside answer.Done size store = false
+grantOutside (answer.Granted offset number) size store = ltb store (offset + size)
+grantOutside (answer.Length length) size store = false
+grantOutside (answer.Free total largest) size store = false
+grantOutside (answer.Regions value regions) size store = false
+grantOutside (answer.Held classes) size store = false
+grantOutside (answer.Refused number) size store = false
+grantOutside answer.Nothing size store = false
+
+-- only a take grants
+abbrev pub isOutside : Call → Answer → (store : ℕ) → Bool
+isOutside (call.SetUp size count) a store = false
+isOutside call.Reset a store = false
+isOutside (call.Take size) a store = grantOutside a size store
+isOutside (call.HandBack number) a store = false
+isOutside (call.SizeOf number) a store = false
+isOutside call.Report a store = false
+isOutside (call.ClassOf class) a store = false
+isOutside call.ClassesHeld a store = false
+isOutside call.Nothing a store = false

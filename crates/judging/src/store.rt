@@ -1,0 +1,105 @@
+// A head with its tables, all of it by value: a call is made on a copy, and what stood before it stays at hand.
+ghost use mathlib.Core.Path.{_≡_};
+ghost use Rattle.judging.specs.Judged.{noHead};
+use bins::totals::Totals;
+
+// Tables for 16 records. The nodes have words for two more, so that a count of 17 or 18 finds the pile alone too short.
+pub struct Store {
+    pub totals: Totals,
+    pub bin_indices: [u32; 256],
+    pub used_bins: [u8; 32],
+    pub nodes: [u32; 144],
+    pub free_nodes: [u32; 16],
+}
+
+// The records that the tables have room for.
+pub const RECORDS: u32 = 16;
+
+impl Store {
+    // The same tables under a head of zeros, which a refused setup leaves.
+    pub fn with_no_head(self) -> Store
+        ensures { λ r. ⌜ r ≡ noHead self ⌝ }
+    {
+        let nodes = self.nodes;
+        let free_nodes = self.free_nodes;
+        let totals = Totals {
+            size: 0,
+            max_allocs: 0,
+            free_storage: 0,
+            free_offset: 0,
+            used_bins_top: 0,
+        };
+        Store {
+            totals,
+            bin_indices: [0u32; 256],
+            used_bins: [0u8; 32],
+            nodes,
+            free_nodes,
+        }
+    }
+
+    pub fn with_totals(mut self, totals: Totals) -> Store
+        ensures { λ r. ⌜ r ≡ record {
+          totals = totals;
+          «bin_indices» = self .«bin_indices»;
+          «used_bins» = self .«used_bins»;
+          nodes = self .nodes;
+          «free_nodes» = self .«free_nodes»;
+        } ⌝ }
+    {
+        self.totals = totals;
+        self
+    }
+
+    pub fn with_bin_indices(mut self, bin_indices: [u32; 256]) -> Store
+        ensures { λ r. ⌜ r ≡ record {
+          totals = self .totals;
+          «bin_indices» = «bin_indices»;
+          «used_bins» = self .«used_bins»;
+          nodes = self .nodes;
+          «free_nodes» = self .«free_nodes»;
+        } ⌝ }
+    {
+        self.bin_indices = bin_indices;
+        self
+    }
+
+    pub fn with_used_bins(mut self, used_bins: [u8; 32]) -> Store
+        ensures { λ r. ⌜ r ≡ record {
+          totals = self .totals;
+          «bin_indices» = self .«bin_indices»;
+          «used_bins» = «used_bins»;
+          nodes = self .nodes;
+          «free_nodes» = self .«free_nodes»;
+        } ⌝ }
+    {
+        self.used_bins = used_bins;
+        self
+    }
+
+    pub fn with_nodes(mut self, nodes: [u32; 144]) -> Store
+        ensures { λ r. ⌜ r ≡ record {
+          totals = self .totals;
+          «bin_indices» = self .«bin_indices»;
+          «used_bins» = self .«used_bins»;
+          nodes = nodes;
+          «free_nodes» = self .«free_nodes»;
+        } ⌝ }
+    {
+        self.nodes = nodes;
+        self
+    }
+
+    pub fn with_free_nodes(mut self, free_nodes: [u32; 16]) -> Store
+        ensures { λ r. ⌜ r ≡ record {
+          totals = self .totals;
+          «bin_indices» = self .«bin_indices»;
+          «used_bins» = self .«used_bins»;
+          nodes = self .nodes;
+          «free_nodes» = «free_nodes»;
+        } ⌝ }
+    {
+        self.free_nodes = free_nodes;
+        self
+    }
+}

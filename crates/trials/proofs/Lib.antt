@@ -1,3 +1,0 @@
--- What the proofs of the program's functions share.
-pub mod Alike
-pub mod FoundAgain

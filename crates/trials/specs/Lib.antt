@@ -1,2 +1,0 @@
--- What is held against the calls on spoiled tables.
-pub mod Judged
