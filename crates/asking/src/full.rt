@@ -66,7 +66,7 @@ fn list_length(nodes: &[u32], max_allocs: u32, first: u32) -> Walked
     Walked::Steps(n)
 }
 
-// The length of every list, or a refusal as unsound where one is circular.
+// The length of every list, or a refusal as unsound where one is circular. That the table holds every record the gate has tested.
 pub fn count(t: Totals, bin_indices: &[u32; 256], nodes: &[u32]) -> FullAnswer
     requires { ⌜ HasRoom (t .«max_allocs») (now nodes) ⌝ }
     ensures exact { λ a. ⌜ ((leaves pile : List ℕ) → fullAnswerOf a

@@ -5,6 +5,7 @@ ghost use Prim.Native.Nat.{_<_, _≤_};
 ghost use lib.ListN.{length, getD, set};
 ghost use Rattle.auditing.specs.Scratch.{cleared};
 
+// 0 in every word below the count. That the scratch has as many the audit's gate has tested.
 pub fn clear(scratch: &mut [u32], max_allocs: u32)
     requires { ⌜ «max_allocs» ≤ length (now scratch) ⌝ }
     ensures { λ _. ⌜ now (scratch .exit) ≡ cleared «max_allocs» (now (scratch .entry)) ⌝ }
@@ -17,6 +18,7 @@ pub fn clear(scratch: &mut [u32], max_allocs: u32)
     }
 }
 
+// What stands there for record r, which the caller has found to be below the count.
 pub fn marked(scratch: &[u32], r: u32) -> u32
     requires { ⌜ r < length (now scratch) ⌝ }
     ensures { λ v. ⌜ v ≡ getD (now (scratch .entry)) r 0 ⌝ }
@@ -24,6 +26,7 @@ pub fn marked(scratch: &[u32], r: u32) -> u32
     scratch[r as usize]
 }
 
+// Record r is spare; the caller has found it to be below the count.
 pub fn mark(scratch: &mut [u32], r: u32)
     requires { ⌜ r < length (now scratch) ⌝ }
     ensures { λ _. ⌜ now (scratch .exit) ≡ set (now (scratch .entry)) r 1 ⌝ }

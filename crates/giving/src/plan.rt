@@ -109,7 +109,7 @@ fn plan_merged(t: Totals, r: u32, before: Side, after: Side, own: u32) -> Planne
     Planned::Merge(before.link, after.link, before.free, after.free, m)
 }
 
-// What a hand-back of record r finds: refused with 5 if it is not live.
+// What a hand-back of record r finds: refused with 5 if it is not live. That the table holds every record the gate has tested.
 pub fn plan(t: Totals, nodes: &[u32], r: u32) -> Planned
     requires { ⌜ HasRoom (t .«max_allocs») (now nodes) ⌝ }
     ensures { λ g. ⌜ ((heads leaves pile : List ℕ) → planOf g ≡ planBack (wordsOf t heads leaves (now (nodes .entry)) pile) r) ⌝ }

@@ -1,5 +1,6 @@
 -- What the definitions beside this file give a reader to rely on: a row that is written is read, and judged if it is one of classes; a row of the
--- list of runs agrees only with its own letter and last two numbers; and the tally of a list of classes adds up. One record, which proofs/Facts.antt makes. Assumes nothing.
+-- list of runs agrees only with its own letter and last two numbers; and the tally of a list of classes adds up. One record, which
+-- proofs/Facts.antt makes. Assumes nothing.
 use Prim.Native.Nat.{ℕ, _+_, _*_, _^_, _≤_, _<_}
 use mathlib.Core.Path.{_≡_}
 use mathlib.Core.Logic.{_↔_}

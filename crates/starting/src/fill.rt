@@ -20,7 +20,8 @@ pub fn clear_used_bins(used_bins: &mut [u8; 32])
     *used_bins = [0u8; 32];
 }
 
-// The other words of a record stay as they came: nothing reads them before they are written.
+// The other words of a record stay as they came: nothing reads them before they are written. That the table holds every record the gate
+// has tested.
 pub fn mark_not_live(nodes: &mut [u32], max_allocs: u32)
     requires { ⌜ HasRoom «max_allocs» (now nodes) ⌝ }
     ensures { λ _. ⌜ now (nodes .exit) ≡ wiped «max_allocs» (now (nodes .entry)) ⌝ }
@@ -32,7 +33,7 @@ pub fn mark_not_live(nodes: &mut [u32], max_allocs: u32)
     }
 }
 
-// In inverse order, so that record 0 is on top.
+// In inverse order, so that record 0 is on top. That the pile holds as many numbers the gate has tested.
 pub fn pile_up(free_nodes: &mut [u32], max_allocs: u32)
     requires { ⌜ «max_allocs» ≤ length (now «free_nodes») ⌝ }
     ensures { λ _. ⌜ now («free_nodes» .exit) ≡ piled «max_allocs» «max_allocs» (now («free_nodes» .entry)) ⌝ }

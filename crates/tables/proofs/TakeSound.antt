@@ -49,7 +49,8 @@ module _ (E : Edition) (w : Words) (l : Ledger) (S : Sound E w l) (s : ℕ) wher
     ]))
   ]
 
-  class-found : (c r : ℕ) (under : List ℕ) → up s ≤ c → l .stacks c ≡ r ∷ under → ((d : ℕ) → up s ≤ d → d < c → l .stacks d ≡ []) → found ≡ c
+  class-found : (c r : ℕ) (under : List ℕ) → up s ≤ c → l .stacks c ≡ r ∷ under
+      → ((d : ℕ) → up s ≤ d → d < c → l .stacks d ≡ []) → found ≡ c
   class-found c r under h top lower = elim (search-finds E w l S (up s)) [
     | inl n ↦ absurd (holds (n .1 c h))
     | inr f ↦ elim (below? found c) [

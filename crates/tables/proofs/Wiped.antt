@@ -44,7 +44,8 @@ piled-word (suc k) n pile i room h = go (same? i k) (piled-word k n pile i (omeg
     go (differ e _) lower = getD-set-other (piled k n pile) k i (n - k - 1) 0 e ∙ lower (omega arith)
 
 -- words that fall by one to the bottom, read as a stack
-pub stack-numbers : (n k : ℕ) (pile : List ℕ) → k ≤ n → ((i : ℕ) → i < k → getD pile i 0 ≡ n - i - 1) → stackOf pile k ≡ numbersFrom (n - k) k
+pub stack-numbers : (n k : ℕ) (pile : List ℕ) → k ≤ n → ((i : ℕ) → i < k → getD pile i 0 ≡ n - i - 1)
+    → stackOf pile k ≡ numbersFrom (n - k) k
 unfolding numbersFrom
 stack-numbers n zero pile h f = refl
 stack-numbers n (suc k) pile h f =

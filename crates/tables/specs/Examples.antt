@@ -76,7 +76,8 @@ pub record NearlyRight : Type 0 where
   pub linked-back :
       Answering 100 8
       (Take 10 ∷ Take 10 ∷ Take 10 ∷ Take 10 ∷ Take 10 ∷ Take 10 ∷ HandBack 0 ∷ HandBack 2 ∷ HandBack 1 ∷ HandBack 4 ∷ Take 10 ∷ [])
-      (granted 0 0 ∷ granted 10 1 ∷ granted 20 2 ∷ granted 30 3 ∷ granted 40 4 ∷ granted 50 5 ∷ done ∷ done ∷ done ∷ done ∷ granted 40 4 ∷ [])
+      (granted 0 0 ∷ granted 10 1 ∷ granted 20 2 ∷ granted 30 3 ∷ granted 40 4 ∷ granted 50 5
+      ∷ done ∷ done ∷ done ∷ done ∷ granted 40 4 ∷ [])
   -- the remainder linked before the grant: both are of class 36, and the class must keep the remainder
   pub grant-first : Answering 100 4 (Take 1 ∷ Report ∷ []) (granted 0 0 ∷ reported 99 96 ∷ [])
 
