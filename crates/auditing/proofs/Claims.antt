@@ -8,11 +8,12 @@ use native.Mathlib.Omega.{arith}
 use lib.ListN.{length, getD}
 use Rattle.basics.proofs.Decided.{Below, below, beyond, below?}
 use Rattle.basics.proofs.Clash.{clash}
-use Rattle.ledger.specs.Ledger.{Ledger, Answer, done, refused, setup}
+use Rattle.ledger.specs.Ledger.{Ledger, Answer, done, refused, setup, by-class, Stacks}
 use Rattle.ledger.specs.Calls.{Call, SizeOf, Report, FullReport}
 use Rattle.ledger.specs.Stretch.{Question, size-query, short-report, full-report}
 use Rattle.ledger.proofs.Records.{all-records}
 use Rattle.ledger.proofs.CallsWell.{setup-well, call-well}
+use Rattle.ledger.proofs.ByClass.{class-laws}
 use Rattle.tables.specs.Words.{Words, Edition}
 use Rattle.tables.specs.Gate.{gateOf, gated}
 use Rattle.tables.specs.Setup.{setupWords}
@@ -121,7 +122,7 @@ module _ (E : Edition) (w : Words) (scratch : List ℕ) where
         (none-marked (w .nodes) (w .pile) (w .count) scratch (r .scratch-room)) in
         clash (cc)
 
-  pub sound-audited : (l : Ledger) → Sound E w l → w .count ≤ length scratch → auditWords E w scratch ≡ (done, cleared (w .count) scratch)
+  pub sound-audited : (l : Ledger Stacks) → Sound E w l → w .count ≤ length scratch → auditWords E w scratch ≡ (done, cleared (w .count) scratch)
   unfolding verdict
   sound-audited l S h =
       at-room record { tables-room = room-of E w l S; scratch-room = h }
@@ -219,19 +220,20 @@ same-answer E w scratch other H a b = elim (one-of-three E w scratch) [
     unsound (inr s) = inr (room (s .0), s .1)
 
 -- ---- calls
-head-of : (E : Edition) (w : Words) (l : Ledger) → Sound E w l → OfHead w
+head-of : (E : Edition) (w : Words) (l : Ledger Stacks) → Sound E w l → OfHead w
 head-of E w l S = record { size-fits = S .size-fits; heads-room = S .heads-room; leaves-room = S .leaves-room }
 
 module _ (E : Edition) (scratch : List ℕ) where
   -- a call keeps the count, since the ledger has it
-  after-call : (w : Words) (l : Ledger) → Sound E w l → w .count ≤ length scratch → (c : Call)
-      → ((m : Ledger) × Sound E (answerWords E c w .1) m) × (answerWords E c w .1 .count ≤ length scratch)
+  after-call : (w : Words) (l : Ledger Stacks) → Sound E w l → w .count ≤ length scratch → (c : Call)
+      → ((m : Ledger Stacks) × Sound E (answerWords E c w .1) m) × (answerWords E c w .1 .count ≤ length scratch)
   after-call w l S h c =
       let next = call-sound E w l S c .1 in
-      let well = call-well (w .size) (w .count) (S .count-low) c l (S .well) in
+      let well = call-well by-class class-laws (w .size) (w .count) (S .count-low) c l (S .well) in
       ((_, next), omega (arith, all-records (next .well .lined), all-records (well .lined)))
 
-  run-audited : (cs : List Call) (w : Words) (l : Ledger) → Sound E w l → w .count ≤ length scratch → auditWords E (endWords E cs w) scratch .0 ≡ done
+  run-audited : (cs : List Call) (w : Words) (l : Ledger Stacks) → Sound E w l → w .count ≤ length scratch
+      → auditWords E (endWords E cs w) scratch .0 ≡ done
   unfolding endWords
   run-audited [] w l S h = answer-is E w scratch (sound-audited E w scratch l S h)
   run-audited (c ∷ cs) w l S h =
@@ -248,7 +250,7 @@ module _ (E : Edition) (scratch : List ℕ) where
       → setupWords E size count nodes pile .1 .count ≡ count
   setup-count size count nodes pile small accepted =
       sym (all-records (setup-sound E size count nodes pile small accepted .well .lined))
-      ∙ all-records (setup-well size count (setup-done E size count nodes pile .0 accepted .count-low) .lined)
+      ∙ all-records (setup-well by-class class-laws size count (setup-done E size count nodes pile .0 accepted .count-low) .lined)
 
 -- a question gives the words as they came, whatever the gate says
 kept : (g : ℕ) (w : Words) (a : Answer) → gated g w (a, w) .1 ≡ w
@@ -277,7 +279,8 @@ claims E = record {
   sound-yes = λ w l scratch S h. sound-audited E w scratch l S h;
   call-keeps = λ w scratch. one-call E scratch w;
   run-keeps = λ size count nodes pile scratch small accepted h cs.
-      run-audited E scratch cs (setupWords E size count nodes pile .1) (setup size count) (setup-sound E size count nodes pile small accepted)
+      run-audited E scratch cs (setupWords E size count nodes pile .1) (setup by-class size count)
+      (setup-sound E size count nodes pile small accepted)
       (omega (arith, setup-count E scratch size count nodes pile small accepted));
   question-leaves = λ c q w scratch. ap (λ (v : Words). auditWords E v scratch) (question-same E c q w);
 }

@@ -11,8 +11,8 @@ use Rattle.basics.proofs.Counts.{In, Match, hit, miss, match?}
 use Rattle.basics.proofs.Pigeons.{sumBelow, sum-zero, sum-plus, sum-same, sum-equal, sum-once, AllBelow, Within, within-shorter, within-whole}
 use Rattle.small_float.specs.Class.{down}
 use Rattle.small_float.proofs.Rounding.{down-most}
-use Rattle.ledger.specs.Ledger.{Region, live, free, len, rec}
-use Rattle.ledger.specs.WellFormed.{has, stands}
+use Rattle.ledger.specs.Ledger.{Region, live, free, len, rec, stands}
+use Rattle.ledger.specs.WellFormed.{has}
 use Rattle.ledger.specs.Claims.{freeOfClass}
 use Rattle.ledger.proofs.FullReport.{recordsOf, records-stand, records-many}
 use Rattle.ledger.proofs.KeptStacks.{stands-own, stands-le}
@@ -34,13 +34,13 @@ of-classes (free n r) h =
     sum-same 256 (λ c. is (down n) c) (λ c. is c (down n)) (λ c _. is-flip (down n) c)
     ∙ sum-once 256 (down n) (omega (arith, down-most n h))
 
-pub by-class : (line : List Region) → tally len line < 2 ^ 32 → sumBelow 256 (λ c. tally (freeOfClass c) line) ≡ tally freeOne line
-by-class [] h = sum-zero 256
-by-class (x ∷ line) h = omega (
+pub classes-add-up : (line : List Region) → tally len line < 2 ^ 32 → sumBelow 256 (λ c. tally (freeOfClass c) line) ≡ tally freeOne line
+classes-add-up [] h = sum-zero 256
+classes-add-up (x ∷ line) h = omega (
   arith,
   sum-plus 256 (λ c. freeOfClass c x) (λ c. tally (freeOfClass c) line),
   of-classes x (omega arith),
-  by-class line (omega arith),
+  classes-add-up line (omega arith),
 )
 
 -- ---- a record of the line whose words say that it is free and of class c stands there for class c
@@ -73,7 +73,7 @@ module _ (count : ℕ) (line : List Region) (stacks : ℕ → List ℕ)
   as-many : (c : ℕ) → c < 256 → length (stacks c) ≡ tally (freeOfClass c) line
   as-many = sum-equal 256 (λ c. length (stacks c)) (λ c. tally (freeOfClass c) line)
       (λ c l. omega (arith, records-many c line, within-shorter count (stacks c) (recordsOf c line) (records-low c) (in-records c l)))
-      (all ∙ sym (by-class line fits))
+      (all ∙ sym (classes-add-up line fits))
 
   pub exactly-free : (c : ℕ) → c < 256 → (q : ℕ) → tally (is q) (stacks c) ≡ tally (stands c q) line
   exactly-free c l q =

@@ -13,11 +13,11 @@ use Rattle.basics.specs.Sum.{one, is, tally}
 use Rattle.basics.proofs.Sums.{one-most, held-first}
 use Rattle.basics.proofs.Counts.{In, one-below}
 use Rattle.basics.proofs.Pigeons.{sumBelow, sum-same}
-use Rattle.ledger.specs.Ledger.{Ledger, Region, rec}
+use Rattle.ledger.specs.Ledger.{Ledger, Region, rec, Stacks}
 use Rattle.ledger.specs.Claims.{freeOfClass}
 use Rattle.ledger.proofs.Records.{all-records}
 use Rattle.ledger.proofs.FullReport.{stack-length}
-use Rattle.ledger.proofs.Cases.{free-of}
+use Rattle.ledger.proofs.ClassCases.{free-of}
 use Rattle.tables.specs.Layout.{neighborPrev, neighborNext, word}
 use Rattle.tables.specs.Words.{Words, Edition, bounds}
 use Rattle.tables.specs.Linked.{first, recs, stackOf}
@@ -34,9 +34,9 @@ use Rattle.auditing.proofs.FirstRecord.{first-found}
 use Rattle.auditing.proofs.ChainMet.{Stands, Met, walk-meets}
 use Rattle.auditing.proofs.ListsMet.{Lists, lists-end}
 use Rattle.auditing.proofs.BitsMet.{bits-agree}
-use Rattle.auditing.proofs.FreeRegions.{by-class}
+use Rattle.auditing.proofs.FreeRegions.{classes-add-up}
 
-module _ (E : Edition) (w : Words) (l : Ledger) (S : Sound E w l) where
+module _ (E : Edition) (w : Words) (l : Ledger Stacks) (S : Sound E w l) where
   small : w .count ≤ E .none
   small = count-none E w l S
 
@@ -145,14 +145,14 @@ module _ (E : Edition) (w : Words) (l : Ledger) (S : Sound E w l) where
         rw (eq-eqb _ _ (met .ends), eq-eqb _ _ at-size, eq-eqb _ _ counted, eq-eqb _ _ total-is)
 
     -- ---- the lists
-    lists-stand : Lists E (w .nodes) marks (w .count) small (w .heads) 256 (l .stacks)
+    lists-stand : Lists E (w .nodes) marks (w .count) small (w .heads) 256 (l .index)
     lists-stand c low = record {
       links = S .lists c;
       start = sym (S .tops c low);
       members = λ q m.
           let f = free-of (S .well) c q m in
           let words = reads-at (w .nodes) (f .place) (S .reads) .1 in
-          let below-count = in-below (bounds E w) w (l .stacks) (l .pile) (shelf-of E w l S) c q m in
+          let below-count = in-below (bounds E w) w (l .index) (l .pile) (shelf-of E w l S) c q m in
           record {
             low = below-count;
             unmarked = omega (arith, spare-count q below-count, shelf-of E w l S .held c q, one-most (ltb q (w .count)));
@@ -161,19 +161,19 @@ module _ (E : Edition) (w : Words) (l : Ledger) (S : Sound E w l) where
           };
     }
 
-    free-regions : sumBelow 256 (λ c. length (l .stacks c)) ≡ chainWalk E w marks .frees
+    free-regions : sumBelow 256 (λ c. length (l .index c)) ≡ chainWalk E w marks .frees
     free-regions =
-        sum-same 256 (λ c. length (l .stacks c)) (λ c. tally (freeOfClass c) (l .line)) (λ c _. stack-length (w .size) (w .count) l (S .well) c)
-        ∙ by-class (l .line) (omega (arith, S .well .lined .cover, S .size-fits))
+        sum-same 256 (λ c. length (l .index c)) (λ c. tally (freeOfClass c) (l .line)) (λ c _. stack-length (w .size) (w .count) l (S .well) c)
+        ∙ classes-add-up (l .line) (omega (arith, S .well .lined .cover, S .size-fits))
         ∙ omega (arith, met .frees-is)
 
     records-sound : recordsAreSound E w marks ≡ true
     unfolding recordsAreSound endIsSound restIsSound sumBelow
     records-sound = rw (
       chain-ends,
-      lists-end E (w .nodes) marks (w .count) small (w .heads) (chainWalk E w marks .frees) (l .stacks) lists-stand free-regions 256 0 0 refl refl,
-    ) (bits-agree E (w .heads) (w .leaves) (w .top) (l .stacks)
-        (λ c q low m. in-some (bounds E w) w (l .stacks) (l .pile) (shelf-of E w l S) c q m) (S .tops)
+      lists-end E (w .nodes) marks (w .count) small (w .heads) (chainWalk E w marks .frees) (l .index) lists-stand free-regions 256 0 0 refl refl,
+    ) (bits-agree E (w .heads) (w .leaves) (w .top) (l .index)
+        (λ c q low m. in-some (bounds E w) w (l .index) (l .pile) (shelf-of E w l S) c q m) (S .tops)
         record { leaves-room = S .leaves-room; leaf-bits = S .leaf-bits; top-bits = S .top-bits })
 
   pub sound-yes : (clear : List ℕ) → MarkedUpTo (w .nodes) (w .pile) (w .count) 0 clear → wordsAreSound E w clear ≡ true

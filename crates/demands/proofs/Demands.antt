@@ -3,7 +3,7 @@ use mathlib.Core.Path.{_≡_, refl, sym, ap, subst, _∙_}
 use mathlib.Core.List.{List, [], _∷_}
 use Prim.Native.Nat.{ℕ, _^_, _≤_, _<_}
 use lib.ListN.{length}
-use Rattle.ledger.specs.Ledger.{Ledger, Answer, done, setup}
+use Rattle.ledger.specs.Ledger.{Ledger, Answer, done, setup, by-class}
 use Rattle.ledger.specs.Calls.{Call, Event, event, answers, end}
 use Rattle.ledger.specs.Stretch.{Stretch}
 use Rattle.ledger.specs.WellFormed.{WellFormed}
@@ -20,7 +20,7 @@ use Rattle.auditing.specs.Audit.{auditWords}
 use Rattle.auditing.specs.Promise.{AuditPromise}
 use Rattle.auditing.proofs.Claims as auditing
 use Rattle.demands.specs.Runs.{Done, called, audited, Run, nothing, call, audit, callsOf, answersOf, logOf}
-use Rattle.demands.specs.Demands.{Demands}
+use Rattle.demands.specs.Demands.{Demands, ledgerAfter}
 
 module _ (E : Edition) where
   -- ---- a run is the model's
@@ -55,20 +55,20 @@ module _ (E : Edition) where
     two : 2 ≤ count
     two = setup-done E size count nodes pile .0 accepted .count-low
 
-    pub run-well : (ds : List Done) → Claims size count × WellFormed size count (end size count (callsOf ds) (setup size count))
+    pub run-well : (ds : List Done) → Claims size count × WellFormed by-class size count (ledgerAfter size count ds)
     run-well ds =
         let claims = ledger.claims size count small two in
-        (claims, claims .reached-well (end size count (callsOf ds) (setup size count)) (callsOf ds, refl))
+        (claims, claims .shared .reached-well (ledgerAfter size count ds) (callsOf ds, refl))
 
     begun : w ≡ setupWords E size count nodes pile .1
     begun = ap (λ (x : Answer × Words). x .1) (s .exact)
 
     pub run-as-ledger : {u : Words} {ds : List Done} → Run E w ds u
-        → (answersOf ds ≡ answers size count (callsOf ds) (setup size count)) × Sound E u (end size count (callsOf ds) (setup size count))
+        → (answersOf ds ≡ answers by-class size count (callsOf ds) (setup by-class size count)) × Sound E u (ledgerAfter size count ds)
     run-as-ledger {u} {ds} run =
         let told = tables.claims E .demand-2 size count nodes pile small accepted (callsOf ds) in (
           run-answers run ∙ ap (answersWords E (callsOf ds)) begun ∙ told .0,
-          subst (λ (x : Words). Sound E x (end size count (callsOf ds) (setup size count)))
+          subst (λ (x : Words). Sound E x (ledgerAfter size count ds))
               (sym (run-end run ∙ ap (endWords E (callsOf ds)) begun)) (told .1),
         )
 
@@ -76,7 +76,7 @@ module _ (E : Edition) where
         → u .count ≤ length scratch → a ≡ done
     run-audited {u} {ds} {scratch} run p long =
         ap (λ (x : Answer × List ℕ). x .0)
-        (p .exact ∙ auditing.claims E .sound-yes u (end size count (callsOf ds) (setup size count)) scratch (run-as-ledger run .1) long)
+        (p .exact ∙ auditing.claims E .sound-yes u (ledgerAfter size count ds) scratch (run-as-ledger run .1) long)
 
     pub run-never : {v u x y : Words} {before ds later instead : List Done} → Run E w before v → Run E v ds u → Stretch [] (logOf ds)
         → Run E u later x → Run E v instead y → callsOf later ≡ callsOf instead → answersOf later ≡ answersOf instead

@@ -5,7 +5,7 @@ use mathlib.Core.Path.{_≡_}
 use mathlib.Core.List.{List, []}
 use Prim.Native.Nat.{ℕ, _+_, _^_, _≤_, _<_}
 use lib.ListN.{length}
-use Rattle.ledger.specs.Ledger.{Ledger, Answer, granted, done, refused, setup}
+use Rattle.ledger.specs.Ledger.{Ledger, Answer, granted, done, refused, setup, by-class, Stacks}
 use Rattle.ledger.specs.Calls.{Call, Take, answers, end}
 use Rattle.ledger.specs.WellFormed.{WellFormed}
 use Rattle.ledger.specs.Claims.{Claims}
@@ -16,6 +16,10 @@ use Rattle.tables.specs.Sound.{Sound}
 use Rattle.tables.specs.Promise.{Promise, SetupPromise}
 use Rattle.auditing.specs.Promise.{AuditPromise}
 use Rattle.demands.specs.Runs.{Done, Run, callsOf, answersOf, logOf}
+
+-- document 01's ledger after the calls of a run
+abbrev pub ledgerAfter : (size count : ℕ) → List Done → Ledger Stacks
+ledgerAfter size count ds = end by-class size count (callsOf ds) (setup by-class size count)
 
 pub record Demands (E : Edition) : Type 0 where
   -- ---- 1. "A refusal changes no word but the audit's scratch." The audit is lent all else to be read only; a refused setup takes no head, and
@@ -28,12 +32,12 @@ pub record Demands (E : Edition) : Type 0 where
   -- ---- 2. "From an accepted setup .. answers and reports .. are proved equal to document 01's plain ledger", and the tables go on standing for it
   pub as-the-ledger : (size count : ℕ) {nodes pile : List ℕ} {w u : Words} {ds : List Done} → size < 2 ^ 32
       → SetupPromise E size count nodes pile w done → Run E w ds u
-      → (answersOf ds ≡ answers size count (callsOf ds) (setup size count)) × Sound E u (end size count (callsOf ds) (setup size count))
+      → (answersOf ds ≡ answers by-class size count (callsOf ds) (setup by-class size count)) × Sound E u (ledgerAfter size count ds)
   -- "Live and free regions cover the store ..": all that is claimed of ledgers (ledger/specs/Claims.antt: inside, disjoint, filled, separated,
   -- refused-exactly and the rest) holds of that ledger, for it is well formed
   pub well-formed : (size count : ℕ) {nodes pile : List ℕ} {w u : Words} {ds : List Done} → size < 2 ^ 32
       → SetupPromise E size count nodes pile w done → Run E w ds u
-      → Claims size count × WellFormed size count (end size count (callsOf ds) (setup size count))
+      → Claims size count × WellFormed by-class size count (ledgerAfter size count ds)
   -- and the audit, wherever it stands in such a run, says yes: what comes before it is such a run too
   pub audit-says-yes : (size count : ℕ) {nodes pile scratch left : List ℕ} {w u : Words} {a : Answer} {ds : List Done} → size < 2 ^ 32
       → SetupPromise E size count nodes pile w done → Run E w ds u → AuditPromise E u scratch left a → u .count ≤ length scratch → a ≡ done

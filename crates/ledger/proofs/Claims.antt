@@ -1,6 +1,8 @@
--- All that specs/Claims.antt claims of the ledger holds. Assumes nothing.
+-- All that specs/Claims.antt claims holds: of every engine that keeps to its laws, and so of document 01's. Assumes nothing.
 use Prim.Native.Nat.{ℕ, _^_, _≤_, _<_}
-use Rattle.ledger.specs.Claims.{Claims}
+use Rattle.ledger.specs.Ledger.{Engine, by-class}
+use Rattle.ledger.specs.Laws.{Laws}
+use Rattle.ledger.specs.Claims.{EngineClaims, ClassClaims, Claims}
 use Rattle.ledger.proofs.CallsWell.{setup-well, call-well, reached-well}
 use Rattle.ledger.proofs.Spans.{inside, disjoint, filled, separated}
 use Rattle.ledger.proofs.Grants.{the-grant, grant-alone, grant-lasts, grant-stays-alone}
@@ -8,36 +10,43 @@ use Rattle.ledger.proofs.Refusals.{refused-exactly, refusal-3, refusal-
 use Rattle.ledger.proofs.LiveAtMost.{live-at-most}
 use Rattle.ledger.proofs.History.{history-sum, report-total}
 use Rattle.ledger.proofs.ReportRule.{report-rule, report-one-spare}
-use Rattle.ledger.proofs.FullReport.{full-report}
 use Rattle.ledger.proofs.Stretch.{stretch-restores, as-though-never}
+use Rattle.ledger.proofs.ClassGrants.{class-grant}
+use Rattle.ledger.proofs.FullReport.{full-report}
+use Rattle.ledger.proofs.ByClass.{class-laws}
+
+pub engine-claims : (E : Engine) → Laws E → (size count : ℕ) → size < 2 ^ 32 → 2 ≤ count → EngineClaims E size count
+engine-claims E laws size count small two = record {
+  setup-well = setup-well E laws size count two;
+  call-well = call-well E laws size count two;
+  reached-well = reached-well E laws size count two;
+  inside = inside E size count;
+  disjoint = disjoint E size count;
+  filled = filled E size count;
+  separated = separated E size count;
+  grant = the-grant E laws size count;
+  grant-alone = grant-alone E laws size count;
+  grant-lasts = grant-lasts E laws size count two;
+  grant-stays-alone = grant-stays-alone E laws size count two;
+  refused-exactly = refused-exactly E laws size count small;
+  refusal-3 = refusal-3 E laws size count;
+  refusal-4 = refusal-4 E laws size count small;
+  refusal-5 = refusal-5 E laws size count;
+  size-refusal-5 = size-refusal-5 E laws size count;
+  live-below = live-below E laws size count;
+  no-other = no-other E laws size count;
+  refused-same = refused-same E laws size count;
+  live-at-most = live-at-most E laws size count two;
+  history-sum = history-sum E laws size count two;
+  report-rule = report-rule E laws size count small;
+  report-total = report-total E laws size count two;
+  report-one-spare = report-one-spare E laws;
+  stretch-restores = stretch-restores E laws size count;
+  as-though-never = as-though-never E laws size count;
+}
+
+pub class-claims : (size count : ℕ) → ClassClaims size count
+class-claims size count = record { grant = class-grant size count; full-report = full-report size count }
 
 pub claims : (size count : ℕ) → size < 2 ^ 32 → 2 ≤ count → Claims size count
-claims size count small two = record {
-  setup-well = setup-well size count two;
-  call-well = call-well size count two;
-  reached-well = reached-well size count two;
-  inside = inside size count;
-  disjoint = disjoint size count;
-  filled = filled size count;
-  separated = separated size count;
-  grant = the-grant size count;
-  grant-alone = grant-alone size count;
-  grant-lasts = grant-lasts size count two;
-  grant-stays-alone = grant-stays-alone size count two;
-  refused-exactly = refused-exactly size count small;
-  refusal-3 = refusal-3 size count;
-  refusal-4 = refusal-4 size count small;
-  refusal-5 = refusal-5 size count;
-  size-refusal-5 = size-refusal-5 size count;
-  live-below = live-below size count;
-  no-other = no-other size count;
-  refused-same = refused-same size count;
-  live-at-most = live-at-most size count two;
-  history-sum = history-sum size count two;
-  report-rule = report-rule size count small;
-  report-total = report-total size count two;
-  report-one-spare = report-one-spare;
-  full-report = full-report size count;
-  stretch-restores = stretch-restores size count;
-  as-though-never = as-though-never size count;
-}
+claims size count small two = record { shared = engine-claims by-class class-laws size count small two; by-stacks = class-claims size count }

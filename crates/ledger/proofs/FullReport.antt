@@ -8,8 +8,8 @@ use lib.ListN.{length}
 use lib.Dec.{eqb}
 use Rattle.basics.specs.Sum.{one, is, tally}
 use Rattle.small_float.specs.Class.{down, shownValue}
-use Rattle.ledger.specs.Ledger.{Ledger, Region, live, free, numbersFrom, fullAt, fullReport}
-use Rattle.ledger.specs.WellFormed.{stands, WellFormed}
+use Rattle.ledger.specs.Ledger.{Ledger, Region, live, free, numbersFrom, fullAt, fullOf, Stacks, by-class, stands}
+use Rattle.ledger.specs.WellFormed.{WellFormed}
 use Rattle.ledger.specs.Claims.{freeOfClass}
 use Rattle.ledger.proofs.Numbers.{same-length}
 
@@ -43,12 +43,12 @@ records-many c (free n r ∷ rest) = go (eqb c (down n)) (records-many c rest)
 
 module _ (size count : ℕ) where
   -- a stack is as long as its class has free regions
-  pub stack-length : (l : Ledger) → WellFormed size count l → (c : ℕ) → length (l .stacks c) ≡ tally (freeOfClass c) (l .line)
+  pub stack-length : (l : Ledger Stacks) → WellFormed by-class size count l → (c : ℕ) → length (l .index c) ≡ tally (freeOfClass c) (l .line)
   stack-length l w c =
-      same-length (l .stacks c) (recordsOf c (l .line)) (λ i. omega (arith, w .stacked .exactly c i, records-stand c i (l .line)))
+      same-length (l .index c) (recordsOf c (l .line)) (λ i. omega (arith, w .kept .exactly c i, records-stand c i (l .line)))
       ∙ records-many c (l .line)
 
-  pub full-report : (l : Ledger) → WellFormed size count l
-      → fullReport l ≡ map (λ c. (shownValue c, tally (freeOfClass c) (l .line))) (numbersFrom 0 256)
-  unfolding fullReport fullAt
+  pub full-report : (l : Ledger Stacks) → WellFormed by-class size count l
+      → fullOf (l .index) ≡ map (λ c. (shownValue c, tally (freeOfClass c) (l .line))) (numbersFrom 0 256)
+  unfolding fullOf fullAt
   full-report l w = ap (λ entry. map entry (numbersFrom 0 256)) (fun-ext (λ c. ap (λ n. (shownValue c, n)) (stack-length l w c)))

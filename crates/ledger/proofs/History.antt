@@ -1,4 +1,6 @@
 -- The spans that are out by the history are the live regions, so with the free lengths they make the size. Assumes nothing.
+use Rattle.ledger.specs.Ledger.{Engine, Ledger, setup, take, handBack, report, Region, live, free, len, freeLen}
+use Rattle.ledger.specs.Laws.{Laws}
 use mathlib.Core.Path.{_≡_, refl}
 use Prim.Native.Nat.{ℕ, _+_, _-_, _≤_}
 use native.Mathlib.Omega.{arith}
@@ -9,9 +11,8 @@ use lib.Dec.{eqb}
 use Rattle.basics.specs.Sum.{one, tally}
 use Rattle.basics.proofs.Decided.{Same, same, differ, same?, eqb-same}
 use Rattle.basics.proofs.Sums.{tally-le, both-first}
-use Rattle.ledger.specs.Ledger.{Ledger, Region, live, free, len, freeLen, setup, take, handBack, report}
-use Rattle.ledger.specs.Calls.{Call, Take, HandBack, SizeOf, Report, FullReport, Reset, event, answer, end, log}
-use Rattle.ledger.specs.WellFormed.{has, WellFormed}
+use Rattle.ledger.specs.Calls.{answer, end, log, Call, Take, HandBack, SizeOf, Report, FullReport, Reset, event}
+use Rattle.ledger.specs.WellFormed.{WellFormed, has}
 use Rattle.ledger.specs.History.{Span, strike, note, outAfter}
 use Rattle.ledger.proofs.Places.{Between, sum-at}
 use Rattle.ledger.proofs.Records.{once-in-line}
@@ -20,122 +21,123 @@ use Rattle.ledger.proofs.Cases.{TakeCase, few-spares, no-region, serves
 use Rattle.ledger.proofs.CallsWell.{setup-well, call-well, end-well}
 use Rattle.ledger.proofs.ReportRule.{report-free}
 
--- ---- live regions and spans, weighed alike: by length and record
-abbrev ofRegion : (ℕ → ℕ → ℕ) → Region → ℕ
-ofRegion weight (live n r) = weight n r
-ofRegion weight (free n r) = 0
+module _ (E : Engine) (laws : Laws E) where
+  -- ---- live regions and spans, weighed alike: by length and record
+  abbrev ofRegion : (ℕ → ℕ → ℕ) → Region → ℕ
+  ofRegion weight (live n r) = weight n r
+  ofRegion weight (free n r) = 0
 
-abbrev ofSpan : (ℕ → ℕ → ℕ) → Span → ℕ
-ofSpan weight x = weight (x .size) (x .number)
+  abbrev ofSpan : (ℕ → ℕ → ℕ) → Span → ℕ
+  ofSpan weight x = weight (x .size) (x .number)
 
--- the spans that are out are the live regions: they weigh the same, whatever the weight
-pub Told : List Span → Ledger → Type 0
-Told out l = (weight : ℕ → ℕ → ℕ) → tally (ofSpan weight) out ≡ tally (ofRegion weight) (l .line)
+  -- the spans that are out are the live regions: they weigh the same, whatever the weight
+  pub Told : List Span → Ledger (E .Index) → Type 0
+  Told out l = (weight : ℕ → ℕ → ℕ) → tally (ofSpan weight) out ≡ tally (ofRegion weight) (l .line)
 
--- ---- a return strikes its span
--- weights that count: the spans of record r, and those of length n besides
-numbered : ℕ → ℕ → ℕ → ℕ
-numbered r m q = one (eqb q r)
+  -- ---- a return strikes its span
+  -- weights that count: the spans of record r, and those of length n besides
+  numbered : ℕ → ℕ → ℕ → ℕ
+  numbered r m q = one (eqb q r)
 
-alike : ℕ → ℕ → ℕ → ℕ → ℕ
-alike n r m q = one (eqb q r && eqb m n)
+  alike : ℕ → ℕ → ℕ → ℕ → ℕ
+  alike n r m q = one (eqb q r && eqb m n)
 
--- where one span has record r, and its length is n, that span is struck
-strike-takes : (n r : ℕ) (out : List Span) → tally (ofSpan (numbered r)) out ≤ 1 → 1 ≤ tally (ofSpan (alike n r)) out
-    → (weight : ℕ → ℕ → ℕ) → tally (ofSpan weight) (strike r out) + weight n r ≡ tally (ofSpan weight) out
-unfolding strike numbered alike
-strike-takes n r [] h k weight = absurd (omega arith)
-strike-takes n r (x ∷ out) h k weight = go (same? (x .number) r) (same? (x .size) n) (λ p q. strike-takes n r out p q weight)
-  where
-    fewer : tally (ofSpan (alike n r)) out ≤ tally (ofSpan (numbered r)) out
-    fewer = tally-le (ofSpan (alike n r)) (ofSpan (numbered r)) (λ y. both-first (eqb (y .number) r) (eqb (y .size) n)) out
-
-    go : Same (x .number) r → Same (x .size) n
-        → (tally (ofSpan (numbered r)) out ≤ 1 → 1 ≤ tally (ofSpan (alike n r)) out
-        → tally (ofSpan weight) (strike r out) + weight n r ≡ tally (ofSpan weight) out)
-        → tally (ofSpan weight) (strike r (x ∷ out)) + weight n r ≡ tally (ofSpan weight) (x ∷ out)
-    go (same p e) (same q f) further = rw (e, p, q) (omega arith)
-    go (same p e) (differ q f) further = absurd (omega (arith, rw e at h, rw (e, f) at k, fewer))
-    go (differ p e) s further = rw e (omega (arith, further (omega (arith, rw e at h)) (omega (arith, rw e at k))))
-
--- ---- every call keeps the history true
-numbered-le : (r : ℕ) (x : Region) → ofRegion (numbered r) x ≤ has r x
-unfolding numbered
-numbered-le r (live n q) = omega arith
-numbered-le r (free n q) = omega arith
-
-alike-own : (n r : ℕ) → alike n r n r ≡ 1
-unfolding alike
-alike-own n r = rw (eqb-same r, eqb-same n)
-
-return-told : (size count n r : ℕ) (before after : List Region) (l : Ledger) (out : List Span) → WellFormed size count l → Told out l
-    → Between before (live n r) after (l .line)
-    → (weight : ℕ → ℕ → ℕ) → tally (ofSpan weight) (strike r out) + weight n r ≡ tally (ofSpan weight) out
-unfolding Told
-return-told size count n r before after l out w told b = strike-takes n r out
-    (omega (arith, told (numbered r), tally-le (ofRegion (numbered r)) (has r) (numbered-le r) (l .line), once-in-line (w .lined) r))
-    (omega (arith, told (alike n r), sum-at b (ofRegion (alike n r)), alike-own n r))
-
-module _ (size count : ℕ) where
-  pub setup-told : Told [] (setup size count)
-  unfolding Told setup
-  setup-told weight = refl
-
-  pub call-told : (c : Call) (l : Ledger) (out : List Span) → WellFormed size count l → Told out l
-      → Told (note (event c (answer size count c l .0)) out) (answer size count c l .1)
-  unfolding answer note Told
-  call-told (Take s) l out w told = go (take-case w s)
+  -- where one span has record r, and its length is n, that span is struck
+  strike-takes : (n r : ℕ) (out : List Span) → tally (ofSpan (numbered r)) out ≤ 1 → 1 ≤ tally (ofSpan (alike n r)) out
+      → (weight : ℕ → ℕ → ℕ) → tally (ofSpan weight) (strike r out) + weight n r ≡ tally (ofSpan weight) out
+  unfolding strike numbered alike
+  strike-takes n r [] h k weight = absurd (omega arith)
+  strike-takes n r (x ∷ out) h k weight = go (same? (x .number) r) (same? (x .size) n) (λ p q. strike-takes n r out p q weight)
     where
-      go : TakeCase s l → Told (note (event (Take s) (take s l .0)) out) (take s l .1)
-      go (few-spares h e) = rw e told
-      go (no-region h empty e) = rw e told
-      go (serves t) = rw (t .outcome)
-          (λ weight. omega (arith, told weight, cut-adds (ofRegion weight) (λ m q. refl) s (t .n - s) l (t .place)))
-  call-told (HandBack r) l out w told = go (live-case w r)
-    where
-      go : LiveCase r l → Told (note (event (HandBack r) (handBack r l .0)) out) (handBack r l .1)
-      go (not-live h e q) = rw e told
-      go (is-live n before after b e q) = rw e
-          (λ weight. omega (
-            arith,
-            told weight,
-            merge-takes (ofRegion weight) (λ m q. refl) l b,
-            return-told size count n r before after l out w told b weight,
-          ))
-  call-told (SizeOf r) l out w told = told
-  call-told Report l out w told = told
-  call-told FullReport l out w told = told
-  call-told Reset l out w told = setup-told
+      fewer : tally (ofSpan (alike n r)) out ≤ tally (ofSpan (numbered r)) out
+      fewer = tally-le (ofSpan (alike n r)) (ofSpan (numbered r)) (λ y. both-first (eqb (y .number) r) (eqb (y .size) n)) out
 
--- ---- the sum
-lengths : (line : List Region) → tally (ofRegion (λ n r. n)) line + tally freeLen line ≡ tally len line
-lengths [] = refl
-lengths (live n r ∷ rest) = omega (arith, lengths rest)
-lengths (free n r ∷ rest) = omega (arith, lengths rest)
+      go : Same (x .number) r → Same (x .size) n
+          → (tally (ofSpan (numbered r)) out ≤ 1 → 1 ≤ tally (ofSpan (alike n r)) out
+          → tally (ofSpan weight) (strike r out) + weight n r ≡ tally (ofSpan weight) out)
+          → tally (ofSpan weight) (strike r (x ∷ out)) + weight n r ≡ tally (ofSpan weight) (x ∷ out)
+      go (same p e) (same q f) further = rw (e, p, q) (omega arith)
+      go (same p e) (differ q f) further = absurd (omega (arith, rw e at h, rw (e, f) at k, fewer))
+      go (differ p e) s further = rw e (omega (arith, further (omega (arith, rw e at h)) (omega (arith, rw e at k))))
 
-module _ (size count : ℕ) (two : 2 ≤ count) where
-  pub run-told : (cs : List Call) (l : Ledger) (out : List Span) → WellFormed size count l → Told out l
-      → Told (outAfter (log size count cs l) out) (end size count cs l)
-  unfolding end log outAfter
-  run-told [] l out w told = told
-  run-told (c ∷ cs) l out w told =
-      run-told cs (answer size count c l .1) (note (event c (answer size count c l .0)) out)
-      (call-well size count two c l w) (call-told size count c l out w told)
+  -- ---- every call keeps the history true
+  numbered-le : (r : ℕ) (x : Region) → ofRegion (numbered r) x ≤ has r x
+  unfolding numbered
+  numbered-le r (live n q) = omega arith
+  numbered-le r (free n q) = omega arith
 
-  pub history-sum : (cs : List Call)
-      → tally (λ (x : Span). x .size) (outAfter (log size count cs (setup size count)) [])
-      + tally freeLen (end size count cs (setup size count) .line) ≡ size
+  alike-own : (n r : ℕ) → alike n r n r ≡ 1
+  unfolding alike
+  alike-own n r = rw (eqb-same r, eqb-same n)
+
+  return-told : (size count n r : ℕ) (before after : List Region) (l : Ledger (E .Index)) (out : List Span) → WellFormed E size count l → Told out l
+      → Between before (live n r) after (l .line)
+      → (weight : ℕ → ℕ → ℕ) → tally (ofSpan weight) (strike r out) + weight n r ≡ tally (ofSpan weight) out
   unfolding Told
-  history-sum cs =
-      let w = setup-well size count two in
-      omega (
-        arith,
-        run-told cs (setup size count) [] w (setup-told size count) (λ n r. n),
-        lengths (end size count cs (setup size count) .line),
-        end-well size count two cs (setup size count) w .lined .cover,
-      )
+  return-told size count n r before after l out w told b = strike-takes n r out
+      (omega (arith, told (numbered r), tally-le (ofRegion (numbered r)) (has r) (numbered-le r) (l .line), once-in-line (w .lined) r))
+      (omega (arith, told (alike n r), sum-at b (ofRegion (alike n r)), alike-own n r))
 
-  pub report-total : (cs : List Call) → 2 ≤ length (end size count cs (setup size count) .pile)
-      → tally (λ (x : Span). x .size) (outAfter (log size count cs (setup size count)) [])
-      + report (end size count cs (setup size count)) .0 ≡ size
-  report-total cs h = omega (arith, history-sum cs, report-free (end size count cs (setup size count)) h)
+  module _ (size count : ℕ) where
+    pub setup-told : Told [] (setup E size count)
+    unfolding Told setup
+    setup-told weight = refl
+
+    pub call-told : (c : Call) (l : Ledger (E .Index)) (out : List Span) → WellFormed E size count l → Told out l
+        → Told (note (event c (answer E size count c l .0)) out) (answer E size count c l .1)
+    unfolding answer note Told
+    call-told (Take s) l out w told = go (take-case E laws w s)
+      where
+        go : TakeCase E s l → Told (note (event (Take s) (take E s l .0)) out) (take E s l .1)
+        go (few-spares h e) = rw e told
+        go (no-region h empty e) = rw e told
+        go (serves t) = rw (t .outcome)
+            (λ weight. omega (arith, told weight, cut-adds E (ofRegion weight) (λ m q. refl) s (t .n - s) l (t .place)))
+    call-told (HandBack r) l out w told = go (live-case E w r)
+      where
+        go : LiveCase E r l → Told (note (event (HandBack r) (handBack E r l .0)) out) (handBack E r l .1)
+        go (not-live h e q) = rw e told
+        go (is-live n before after b e q) = rw e
+            (λ weight. omega (
+              arith,
+              told weight,
+              merge-takes E (ofRegion weight) (λ m q. refl) l b,
+              return-told size count n r before after l out w told b weight,
+            ))
+    call-told (SizeOf r) l out w told = told
+    call-told Report l out w told = told
+    call-told FullReport l out w told = told
+    call-told Reset l out w told = setup-told
+
+  -- ---- the sum
+  lengths : (line : List Region) → tally (ofRegion (λ n r. n)) line + tally freeLen line ≡ tally len line
+  lengths [] = refl
+  lengths (live n r ∷ rest) = omega (arith, lengths rest)
+  lengths (free n r ∷ rest) = omega (arith, lengths rest)
+
+  module _ (size count : ℕ) (two : 2 ≤ count) where
+    pub run-told : (cs : List Call) (l : Ledger (E .Index)) (out : List Span) → WellFormed E size count l → Told out l
+        → Told (outAfter (log E size count cs l) out) (end E size count cs l)
+    unfolding end log outAfter
+    run-told [] l out w told = told
+    run-told (c ∷ cs) l out w told =
+        run-told cs (answer E size count c l .1) (note (event c (answer E size count c l .0)) out)
+        (call-well E laws size count two c l w) (call-told size count c l out w told)
+
+    pub history-sum : (cs : List Call)
+        → tally (λ (x : Span). x .size) (outAfter (log E size count cs (setup E size count)) [])
+        + tally freeLen (end E size count cs (setup E size count) .line) ≡ size
+    unfolding Told
+    history-sum cs =
+        let w = setup-well E laws size count two in
+        omega (
+          arith,
+          run-told cs (setup E size count) [] w (setup-told size count) (λ n r. n),
+          lengths (end E size count cs (setup E size count) .line),
+          end-well E laws size count two cs (setup E size count) w .lined .cover,
+        )
+
+    pub report-total : (cs : List Call) → 2 ≤ length (end E size count cs (setup E size count) .pile)
+        → tally (λ (x : Span). x .size) (outAfter (log E size count cs (setup E size count)) [])
+        + report E (end E size count cs (setup E size count)) .0 ≡ size
+    report-total cs h = omega (arith, history-sum cs, report-free E laws (end E size count cs (setup E size count)) h)

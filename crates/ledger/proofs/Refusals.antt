@@ -1,132 +1,118 @@
 -- When a call on a ledger in order is refused, with which number, and that it then changes nothing. Assumes nothing.
+use Rattle.ledger.specs.Ledger.{Engine, Ledger, take, handBack, sizeOf, len, refused}
+use Rattle.ledger.specs.Laws.{Laws}
 use mathlib.Core.Path.{_≡_, refl, ap, subst}
 use Prim.Native.Nat.{ℕ, _^_, _≤_, _<_}
 use native.Mathlib.Omega.{arith}
 use mathlib.Core.Logic.{_↔_, _⊎_, inl, inr, _≢_}
-use mathlib.Core.List.{[]}
+use mathlib.Core.Option.{none}
 use lib.ListN.{length}
 use Rattle.basics.specs.Sum.{is, tally}
 use Rattle.basics.proofs.Clash.{clash}
 use Rattle.basics.proofs.Decided.{Below, below, beyond, below?}
-use Rattle.small_float.specs.Class.{down, up, classesInUse}
-use Rattle.small_float.proofs.Rounding.{down-most}
-use Rattle.ledger.specs.Ledger.{Ledger, len, refused, take, handBack, sizeOf}
-use Rattle.ledger.specs.Calls.{Call, Take, HandBack, SizeOf, Report, FullReport, Reset, answer}
-use Rattle.ledger.specs.WellFormed.{stands, WellFormed}
-use Rattle.ledger.specs.Spans.{FreeIn}
+use Rattle.ledger.specs.Calls.{answer, Call, Take, HandBack, SizeOf, Report, FullReport, Reset}
+use Rattle.ledger.specs.WellFormed.{WellFormed}
 use Rattle.ledger.specs.Claims.{Refused, NoneReaches, Live, CanRefuse, too-few-spares, none-reaches, unknown}
 use Rattle.ledger.proofs.Places.{between-at, at-weighs}
 use Rattle.ledger.proofs.Records.{record-below}
-use Rattle.ledger.proofs.KeptStacks.{stands-own}
 use Rattle.ledger.proofs.Cases.{TakeCase, few-spares, no-region, serves, take-case, LiveCase, is-live, not-live, live-case}
 
--- ---- a free region's class is one of those in use, and its stack is not empty
-pub class-in-use : {size count : ℕ} {l : Ledger} {n : ℕ} → size < 2 ^ 32 → WellFormed size count l → FreeIn n (l .line) → down n < classesInUse
-class-in-use {n = n} small w f = omega (arith, down-most n (omega (arith, at-weighs (f .2) len, w .lined .cover)))
+module _ (E : Engine) (laws : Laws E) where
+  -- ---- take
+  module _ (size count : ℕ) where
+    pub refusal-3 : (s : ℕ) (l : Ledger (E .Index)) → WellFormed E size count l → (take E s l .0 ≡ refused 3) ↔ (length (l .pile) ≤ 1)
+    refusal-3 s l w = go (take-case E laws w s)
+      where
+        go : TakeCase E s l → (take E s l .0 ≡ refused 3) ↔ (length (l .pile) ≤ 1)
+        go (few-spares h e) = (λ x. h, λ x. ap (λ a. a .0) e)
+        go (no-region h k e) = (λ x. clash (cc), λ x. absurd (omega arith))
+        go (serves t) = (λ x. clash (cc (t .outcome)), λ x. absurd (omega (arith, t .two-spare)))
 
-pub stack-not-empty : {size count : ℕ} {l : Ledger} {n : ℕ} → WellFormed size count l → FreeIn n (l .line) → l .stacks (down n) ≢ []
-stack-not-empty {l = l} {n = n} w f e =
-    let r = f .1 in
-    omega (arith, at-weighs (f .2) (stands (down n) r), stands-own n r, w .stacked .exactly (down n) r, ap (tally (is r)) e)
+    pub refusal-4 : size < 2 ^ 32 → (s : ℕ) (l : Ledger (E .Index)) → WellFormed E size count l
+        → (take E s l .0 ≡ refused 4) ↔ ((2 ≤ length (l .pile)) × NoneReaches E s l)
+    refusal-4 small s l w = go (take-case E laws w s)
+      where
+        none-of : E .choose s (l .line) (l .index) ≡ none → NoneReaches E s l
+        none-of m = laws .fails s (l .line) (l .index) (w .kept) (omega (arith, w .lined .cover)) m
 
--- ---- take
-module _ (size count : ℕ) where
-  pub refusal-3 : (s : ℕ) (l : Ledger) → WellFormed size count l → (take s l .0 ≡ refused 3) ↔ (length (l .pile) ≤ 1)
-  refusal-3 s l w = go (take-case w s)
-    where
-      go : TakeCase s l → (take s l .0 ≡ refused 3) ↔ (length (l .pile) ≤ 1)
-      go (few-spares h e) = (λ x. h, λ x. ap (λ a. a .0) e)
-      go (no-region h k e) = (λ x. clash (cc), λ x. absurd (omega arith))
-      go (serves t) = (λ x. clash (cc (t .outcome)), λ x. absurd (omega (arith, t .two-spare)))
+        go : TakeCase E s l → (take E s l .0 ≡ refused 4) ↔ ((2 ≤ length (l .pile)) × NoneReaches E s l)
+        go (few-spares h e) = (λ x. clash (cc), λ x. absurd (omega arith))
+        go (no-region h empty e) = (λ x. (h, none-of empty), λ x. ap (λ a. a .0) e)
+        go (serves t) = (
+          λ x. clash (cc (t .outcome)),
+          λ x. absurd (omega (arith, x .1 (t .n) (_, _, between-at (t .place)), t .reaching)),
+        )
 
-  pub refusal-4 : size < 2 ^ 32 → (s : ℕ) (l : Ledger) → WellFormed size count l
-      → (take s l .0 ≡ refused 4) ↔ ((2 ≤ length (l .pile)) × NoneReaches s l)
-  refusal-4 small s l w = go (take-case w s)
-    where
-      none-of : ((c : ℕ) → up s ≤ c → c < classesInUse → l .stacks c ≡ []) → NoneReaches s l
-      none-of empty n f = elim (below? (down n) (up s)) [
-        | below h e ↦ h
-        | beyond h e ↦ absurd (stack-not-empty w f (empty (down n) h (class-in-use small w f)))
-      ]
+    pub refused-exactly : size < 2 ^ 32 → (s : ℕ) (l : Ledger (E .Index)) → WellFormed E size count l
+        → Refused E s l ↔ ((length (l .pile) ≤ 1) ⊎ NoneReaches E s l)
+    refused-exactly small s l w = (why (take-case E laws w s), then (below? 1 (length (l .pile))))
+      where
+        why : TakeCase E s l → Refused E s l → (length (l .pile) ≤ 1) ⊎ NoneReaches E s l
+        why (few-spares h e) x = inl h
+        why (no-region h empty e) x = inr (refusal-4 small s l w .0 (ap (λ a. a .0) e) .1)
+        why (serves t) x = clash (cc (t .outcome, x .1))
 
-      go : TakeCase s l → (take s l .0 ≡ refused 4) ↔ ((2 ≤ length (l .pile)) × NoneReaches s l)
-      go (few-spares h e) = (λ x. clash (cc), λ x. absurd (omega arith))
-      go (no-region h empty e) = (λ x. (h, none-of empty), λ x. ap (λ a. a .0) e)
-      go (serves t) = (
-        λ x. clash (cc (t .outcome)),
-        λ x. absurd (omega (arith, x .1 (t .n) (_, _, between-at (t .place)), t .reaching)),
-      )
+        then : Below 1 (length (l .pile)) → (length (l .pile) ≤ 1) ⊎ NoneReaches E s l → Refused E s l
+        then b (inl h) = (3, refusal-3 s l w .1 h)
+        then (below h e) (inr out) = (4, refusal-4 small s l w .1 (h, out))
+        then (beyond h e) (inr out) = (3, refusal-3 s l w .1 h)
 
-  pub refused-exactly : size < 2 ^ 32 → (s : ℕ) (l : Ledger) → WellFormed size count l
-      → Refused s l ↔ ((length (l .pile) ≤ 1) ⊎ NoneReaches s l)
-  refused-exactly small s l w = (why (take-case w s), then (below? 1 (length (l .pile))))
-    where
-      why : TakeCase s l → Refused s l → (length (l .pile) ≤ 1) ⊎ NoneReaches s l
-      why (few-spares h e) x = inl h
-      why (no-region h empty e) x = inr (refusal-4 small s l w .0 (ap (λ a. a .0) e) .1)
-      why (serves t) x = clash (cc (t .outcome, x .1))
+    -- ---- hand back and the size query
+    pub refusal-5 : (r : ℕ) (l : Ledger (E .Index)) → WellFormed E size count l → (handBack E r l .0 ≡ refused 5) ↔ (¬ Live r l)
+    refusal-5 r l w = go (live-case E w r)
+      where
+        go : LiveCase E r l → (handBack E r l .0 ≡ refused 5) ↔ (¬ Live r l)
+        go (not-live h e q) = (λ x. h, λ x. ap (λ a. a .0) e)
+        go (is-live n before after b e q) = (λ x. clash (cc), λ x. absurd (x (n, _, between-at b)))
 
-      then : Below 1 (length (l .pile)) → (length (l .pile) ≤ 1) ⊎ NoneReaches s l → Refused s l
-      then b (inl h) = (3, refusal-3 s l w .1 h)
-      then (below h e) (inr none) = (4, refusal-4 small s l w .1 (h, none))
-      then (beyond h e) (inr none) = (3, refusal-3 s l w .1 h)
+    pub size-refusal-5 : (r : ℕ) (l : Ledger (E .Index)) → WellFormed E size count l → (sizeOf r l ≡ refused 5) ↔ (¬ Live r l)
+    size-refusal-5 r l w = go (live-case E w r)
+      where
+        go : LiveCase E r l → (sizeOf r l ≡ refused 5) ↔ (¬ Live r l)
+        go (not-live h e q) = (λ x. h, λ x. q)
+        go (is-live n before after b e q) = (λ x. clash (cc), λ x. absurd (x (n, _, between-at b)))
 
-  -- ---- hand back and the size query
-  pub refusal-5 : (r : ℕ) (l : Ledger) → WellFormed size count l → (handBack r l .0 ≡ refused 5) ↔ (¬ Live r l)
-  refusal-5 r l w = go (live-case w r)
-    where
-      go : LiveCase r l → (handBack r l .0 ≡ refused 5) ↔ (¬ Live r l)
-      go (not-live h e q) = (λ x. h, λ x. ap (λ a. a .0) e)
-      go (is-live n before after b e q) = (λ x. clash (cc), λ x. absurd (x (n, _, between-at b)))
+    pub live-below : (r : ℕ) (l : Ledger (E .Index)) → WellFormed E size count l → Live r l → r < count
+    live-below r l w h = record-below (w .lined) (h .2)
 
-  pub size-refusal-5 : (r : ℕ) (l : Ledger) → WellFormed size count l → (sizeOf r l ≡ refused 5) ↔ (¬ Live r l)
-  size-refusal-5 r l w = go (live-case w r)
-    where
-      go : LiveCase r l → (sizeOf r l ≡ refused 5) ↔ (¬ Live r l)
-      go (not-live h e q) = (λ x. h, λ x. q)
-      go (is-live n before after b e q) = (λ x. clash (cc), λ x. absurd (x (n, _, between-at b)))
+    -- ---- all calls
+    pub no-other : (c : Call) (k : ℕ) (l : Ledger (E .Index)) → WellFormed E size count l → answer E size count c l .0 ≡ refused k → CanRefuse c k
+    unfolding answer
+    no-other (Take s) k l w x = go (take-case E laws w s)
+      where
+        go : TakeCase E s l → CanRefuse (Take s) k
+        go (few-spares h e) = let number : 3 ≡ k = cc in subst (CanRefuse (Take s)) number too-few-spares
+        go (no-region h empty e) = let number : 4 ≡ k = cc in subst (CanRefuse (Take s)) number none-reaches
+        go (serves t) = clash (cc (t .outcome))
+    no-other (HandBack r) k l w x = go (live-case E w r)
+      where
+        go : LiveCase E r l → CanRefuse (HandBack r) k
+        go (not-live h e q) = let number : 5 ≡ k = cc in subst (CanRefuse (HandBack r)) number CanRefuse.not-live
+        go (is-live n before after b e q) = clash (cc)
+    no-other (SizeOf r) k l w x = go (live-case E w r)
+      where
+        go : LiveCase E r l → CanRefuse (SizeOf r) k
+        go (not-live h e q) = let number : 5 ≡ k = cc in subst (CanRefuse (SizeOf r)) number unknown
+        go (is-live n before after b e q) = clash (cc)
+    no-other Report k l w x = clash (cc)
+    no-other FullReport k l w x = clash (cc)
+    no-other Reset k l w x = clash (cc)
 
-  pub live-below : (r : ℕ) (l : Ledger) → WellFormed size count l → Live r l → r < count
-  live-below r l w h = record-below (w .lined) (h .2)
-
-  -- ---- all calls
-  pub no-other : (c : Call) (k : ℕ) (l : Ledger) → WellFormed size count l → answer size count c l .0 ≡ refused k → CanRefuse c k
-  unfolding answer
-  no-other (Take s) k l w x = go (take-case w s)
-    where
-      go : TakeCase s l → CanRefuse (Take s) k
-      go (few-spares h e) = let number : 3 ≡ k = cc in subst (CanRefuse (Take s)) number too-few-spares
-      go (no-region h empty e) = let number : 4 ≡ k = cc in subst (CanRefuse (Take s)) number none-reaches
-      go (serves t) = clash (cc (t .outcome))
-  no-other (HandBack r) k l w x = go (live-case w r)
-    where
-      go : LiveCase r l → CanRefuse (HandBack r) k
-      go (not-live h e q) = let number : 5 ≡ k = cc in subst (CanRefuse (HandBack r)) number CanRefuse.not-live
-      go (is-live n before after b e q) = clash (cc)
-  no-other (SizeOf r) k l w x = go (live-case w r)
-    where
-      go : LiveCase r l → CanRefuse (SizeOf r) k
-      go (not-live h e q) = let number : 5 ≡ k = cc in subst (CanRefuse (SizeOf r)) number unknown
-      go (is-live n before after b e q) = clash (cc)
-  no-other Report k l w x = clash (cc)
-  no-other FullReport k l w x = clash (cc)
-  no-other Reset k l w x = clash (cc)
-
-  pub refused-same : (c : Call) (k : ℕ) (l : Ledger) → WellFormed size count l
-      → answer size count c l .0 ≡ refused k → answer size count c l .1 ≡ l
-  unfolding answer
-  refused-same (Take s) k l w x = go (take-case w s)
-    where
-      go : TakeCase s l → take s l .1 ≡ l
-      go (few-spares h e) = ap (λ a. a .1) e
-      go (no-region h empty e) = ap (λ a. a .1) e
-      go (serves t) = clash (cc (t .outcome))
-  refused-same (HandBack r) k l w x = go (live-case w r)
-    where
-      go : LiveCase r l → handBack r l .1 ≡ l
-      go (not-live h e q) = ap (λ a. a .1) e
-      go (is-live n before after b e q) = clash (cc)
-  refused-same (SizeOf r) k l w x = refl
-  refused-same Report k l w x = refl
-  refused-same FullReport k l w x = refl
-  refused-same Reset k l w x = clash (cc)
+    pub refused-same : (c : Call) (k : ℕ) (l : Ledger (E .Index)) → WellFormed E size count l
+        → answer E size count c l .0 ≡ refused k → answer E size count c l .1 ≡ l
+    unfolding answer
+    refused-same (Take s) k l w x = go (take-case E laws w s)
+      where
+        go : TakeCase E s l → take E s l .1 ≡ l
+        go (few-spares h e) = ap (λ a. a .1) e
+        go (no-region h empty e) = ap (λ a. a .1) e
+        go (serves t) = clash (cc (t .outcome))
+    refused-same (HandBack r) k l w x = go (live-case E w r)
+      where
+        go : LiveCase E r l → handBack E r l .1 ≡ l
+        go (not-live h e q) = ap (λ a. a .1) e
+        go (is-live n before after b e q) = clash (cc)
+    refused-same (SizeOf r) k l w x = refl
+    refused-same Report k l w x = refl
+    refused-same FullReport k l w x = refl
+    refused-same Reset k l w x = clash (cc)

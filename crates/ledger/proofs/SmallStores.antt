@@ -8,21 +8,23 @@ use lib.ListN.{length}
 use lib.Dec.{ltb}
 use Rattle.basics.proofs.Decided.{below, beyond, below?}
 use Rattle.small_float.specs.Class.{down, up}
-use Rattle.ledger.specs.Ledger.{Ledger, live, free, Answer, granted, done, refused, onTop, without, numbersFrom, setup, take, handBack}
+use Rattle.ledger.specs.Ledger.{Ledger, live, free, Answer, granted, done, refused, by-class, Stacks}
+use Rattle.ledger.specs.Ledger.{onTop, without, lowest, numbersFrom, setup, take, handBack}
 use Rattle.ledger.specs.Calls.{Call, Take, HandBack, answers}
 use Rattle.ledger.specs.Claims.{Reached}
 use Rattle.ledger.specs.Runs.{Answering, SmallStores}
 use Rattle.ledger.proofs.Numbers.{length-numbersFrom}
 use Rattle.ledger.proofs.Stacks.{onTop-without}
 use Rattle.ledger.proofs.Records.{all-records}
+use Rattle.ledger.proofs.ByClass.{class-laws}
 use Rattle.ledger.proofs.CallsWell.{reached-well}
 use Rattle.ledger.proofs.Refusals.{refusal-3}
 
 -- one region and two records leave one spare at most
-count-2 : (size s : ℕ) (l : Ledger) → Reached size 2 l → take s l .0 ≡ refused 3
+count-2 : (size s : ℕ) (l : Ledger Stacks) → Reached by-class size 2 l → take by-class s l .0 ≡ refused 3
 count-2 size s l h =
-    let w = reached-well size 2 (omega arith) l h in
-    refusal-3 size 2 s l w .1 (omega (arith, all-records (w .lined), w .lined .some-region))
+    let w = reached-well by-class class-laws size 2 (omega arith) l h in
+    refusal-3 by-class class-laws size 2 s l w .1 (omega (arith, all-records (w .lined), w .lined .some-region))
 
 two-spare : (count : ℕ) → 3 ≤ count → ltb 1 (length (numbersFrom 1 (count - 1))) ≡ true
 two-spare count h = elim (below? 1 (length (numbersFrom 1 (count - 1)))) [
@@ -31,49 +33,49 @@ two-spare count h = elim (below? 1 (length (numbersFrom 1 (count - 1)))) [
 ]
 
 grants-16 : (count : ℕ) → 3 ≤ count → Answering 17 count (Take 16 ∷ []) (granted 0 0 ∷ [])
-unfolding answers setup up
+unfolding answers setup up onTop without lowest
 grants-16 count h = rw (two-spare count h)
 
 refuses-17 : (count : ℕ) → 3 ≤ count → Answering 17 count (Take 17 ∷ []) (refused 4 ∷ [])
-unfolding answers setup up
+unfolding answers setup up onTop without lowest
 refuses-17 count h = rw (two-spare count h)
 
 -- ---- a store of 0
 -- a run call by call
-answers-take : (size count s : ℕ) (cs : List Call) (l : Ledger) (a : Answer × Ledger) → take s l ≡ a
-    → answers size count (Take s ∷ cs) l ≡ a .0 ∷ answers size count cs (a .1)
-unfolding answers
-answers-take size count s cs l a e = ap (λ x. x .0 ∷ answers size count cs (x .1)) e
+answers-take : (size count s : ℕ) (cs : List Call) (l : Ledger Stacks) (a : Answer × Ledger Stacks) → take by-class s l ≡ a
+    → answers by-class size count (Take s ∷ cs) l ≡ a .0 ∷ answers by-class size count cs (a .1)
+unfolding answers onTop without lowest
+answers-take size count s cs l a e = ap (λ x. x .0 ∷ answers by-class size count cs (x .1)) e
 
-answers-hand-back : (size count r : ℕ) (cs : List Call) (l : Ledger) (a : Answer × Ledger) → handBack r l ≡ a
-    → answers size count (HandBack r ∷ cs) l ≡ a .0 ∷ answers size count cs (a .1)
-unfolding answers
-answers-hand-back size count r cs l a e = ap (λ x. x .0 ∷ answers size count cs (x .1)) e
+answers-hand-back : (size count r : ℕ) (cs : List Call) (l : Ledger Stacks) (a : Answer × Ledger Stacks) → handBack by-class r l ≡ a
+    → answers by-class size count (HandBack r ∷ cs) l ≡ a .0 ∷ answers by-class size count cs (a .1)
+unfolding answers onTop without lowest
+answers-hand-back size count r cs l a e = ap (λ x. x .0 ∷ answers by-class size count cs (x .1)) e
 
 -- its one region, free or live, with any spare records
-zeroFree : List ℕ → Ledger
-zeroFree pile = record { line = free 0 0 ∷ []; stacks = onTop (down 0) 0 (λ c. []); pile = pile }
+zeroFree : List ℕ → Ledger Stacks
+zeroFree pile = record { line = free 0 0 ∷ []; index = onTop (down 0) 0 (λ c. []); pile = pile }
 
-zeroLive : List ℕ → Ledger
-zeroLive pile = record { line = live 0 0 ∷ []; stacks = without (down 0) 0 (onTop (down 0) 0 (λ c. [])); pile = pile }
+zeroLive : List ℕ → Ledger Stacks
+zeroLive pile = record { line = live 0 0 ∷ []; index = without (down 0) 0 (onTop (down 0) 0 (λ c. [])); pile = pile }
 
-grants-0 : (pile : List ℕ) → ltb 1 (length pile) ≡ true → take 0 (zeroFree pile) ≡ (granted 0 0, zeroLive pile)
-unfolding zeroFree zeroLive take up
+grants-0 : (pile : List ℕ) → ltb 1 (length pile) ≡ true → take by-class 0 (zeroFree pile) ≡ (granted 0 0, zeroLive pile)
+unfolding zeroFree zeroLive take up onTop without lowest
 grants-0 pile two = rw two
 
-refuses-0 : (pile : List ℕ) → ltb 1 (length pile) ≡ true → take 0 (zeroLive pile) ≡ (refused 4, zeroLive pile)
-unfolding zeroLive take up
+refuses-0 : (pile : List ℕ) → ltb 1 (length pile) ≡ true → take by-class 0 (zeroLive pile) ≡ (refused 4, zeroLive pile)
+unfolding zeroLive take up onTop without lowest
 refuses-0 pile two = rw two
 
-returns-0 : (pile : List ℕ) → handBack 0 (zeroLive pile) ≡ (done, zeroFree pile)
-unfolding zeroFree zeroLive handBack down
+returns-0 : (pile : List ℕ) → handBack by-class 0 (zeroLive pile) ≡ (done, zeroFree pile)
+unfolding zeroFree zeroLive handBack down onTop without lowest
 returns-0 pile =
     let restored = onTop-without (down 0) 0 (onTop (down 0) 0 (λ c. [])) [] refl in
-    λ i. (done, record { line = free 0 0 ∷ []; stacks = restored i; pile = pile })
+    λ i. (done, record { line = free 0 0 ∷ []; index = restored i; pile = pile })
 
 store-of-0 : (count : ℕ) → 3 ≤ count
     → Answering 0 count (Take 0 ∷ Take 0 ∷ HandBack 0 ∷ Take 0 ∷ []) (granted 0 0 ∷ refused 4 ∷ done ∷ granted 0 0 ∷ [])
-unfolding setup zeroFree answers
+unfolding setup zeroFree answers onTop without lowest
 store-of-0 count h =
     let pile = numbersFrom 1 (count - 1) in
     let two = two-spare count h in

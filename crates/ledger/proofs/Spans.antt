@@ -6,7 +6,7 @@ use mathlib.Core.Logic.{inl, inr, _≢_}
 use mathlib.Core.List.{List, [], _∷_, _++_}
 use Rattle.basics.specs.Sum.{tally}
 use Rattle.basics.proofs.Decided.{Below, below, beyond, below?}
-use Rattle.ledger.specs.Ledger.{Ledger, Region, live, free, len, rec}
+use Rattle.ledger.specs.Ledger.{Engine, Ledger, Region, live, free, len, rec}
 use Rattle.ledger.specs.WellFormed.{Apart, WellFormed}
 use Rattle.ledger.specs.Spans.{At, first, later, Disjoint}
 use Rattle.ledger.proofs.Places.{Where, here, further, where?}
@@ -54,22 +54,23 @@ live-between n q [] m p after h = absurd (h .0)
 live-between n q (live k r ∷ rest) m p after h = (k, r, rest, refl)
 live-between n q (free k r ∷ rest) m p after h = absurd (h .0)
 
--- ---- in the line of a ledger in order
-module _ (size count : ℕ) where
-  pub inside : (l : Ledger) → WellFormed size count l → (x : Region) (o : ℕ) → At x o (l .line) → o + len x ≤ size
-  inside l w x o a = omega (arith, within a, w .lined .cover)
+module _ (E : Engine) where
+  -- ---- in the line of a ledger in order
+  module _ (size count : ℕ) where
+    pub inside : (l : Ledger (E .Index)) → WellFormed E size count l → (x : Region) (o : ℕ) → At x o (l .line) → o + len x ≤ size
+    inside l w x o a = omega (arith, within a, w .lined .cover)
 
-  pub disjoint : (l : Ledger) → WellFormed size count l → (x y : Region) (o p : ℕ) → At x o (l .line) → At y p (l .line)
-      → rec x ≢ rec y → Disjoint o (len x) p (len y)
-  disjoint l w x y o p a b h = at-disjoint a b h
+    pub disjoint : (l : Ledger (E .Index)) → WellFormed E size count l → (x y : Region) (o p : ℕ) → At x o (l .line) → At y p (l .line)
+        → rec x ≢ rec y → Disjoint o (len x) p (len y)
+    disjoint l w x y o p a b h = at-disjoint a b h
 
-  pub filled : (l : Ledger) → WellFormed size count l → (a : ℕ) → a < size
-      → (x : Region) × (o : ℕ) × At x o (l .line) × (o ≤ a) × (a < o + len x)
-  unfolding Holding
-  filled l w a h = holding (l .line) a (omega (arith, w .lined .cover))
+    pub filled : (l : Ledger (E .Index)) → WellFormed E size count l → (a : ℕ) → a < size
+        → (x : Region) × (o : ℕ) × At x o (l .line) × (o ≤ a) × (a < o + len x)
+    unfolding Holding
+    filled l w a h = holding (l .line) a (omega (arith, w .lined .cover))
 
-  pub separated : (l : Ledger) → WellFormed size count l → (before between after : List Region) (n q m p : ℕ)
-      → l .line ≡ before ++ (free n q ∷ (between ++ (free m p ∷ after)))
-      → (k : ℕ) × (r : ℕ) × (rest : List Region) × (between ≡ live k r ∷ rest)
-  separated l w before between after n q m p e =
-      live-between n q between m p after (apart-end before _ (subst Apart e (w .lined .apart)))
+    pub separated : (l : Ledger (E .Index)) → WellFormed E size count l → (before between after : List Region) (n q m p : ℕ)
+        → l .line ≡ before ++ (free n q ∷ (between ++ (free m p ∷ after)))
+        → (k : ℕ) × (r : ℕ) × (rest : List Region) × (between ≡ live k r ∷ rest)
+    separated l w before between after n q m p e =
+        live-between n q between m p after (apart-end before _ (subst Apart e (w .lined .apart)))

@@ -1,4 +1,6 @@
 -- A live region stays where it is, at its length, until its record is handed back or the store is reset. Assumes nothing.
+use Rattle.ledger.specs.Ledger.{Engine, Ledger, cut, merge, take, handBack, Region, live, free, len, gap, past}
+use Rattle.ledger.specs.Laws.{Laws}
 use mathlib.Core.Path.{_≡_}
 use Prim.Native.Nat.{ℕ, zero, suc, _+_, _-_, _≤_}
 use native.Mathlib.Omega.{arith}
@@ -7,8 +9,7 @@ use mathlib.Core.List.{List, [], _∷_, reverseAux}
 use lib.ListN.{getD}
 use Rattle.basics.specs.Sum.{tally}
 use Rattle.basics.proofs.Clash.{clash}
-use Rattle.ledger.specs.Ledger.{Ledger, Region, live, free, len, cut, merge, gap, past, take, handBack}
-use Rattle.ledger.specs.Calls.{Call, Take, HandBack, SizeOf, Report, FullReport, Reset, answer, end}
+use Rattle.ledger.specs.Calls.{answer, end, Call, Take, HandBack, SizeOf, Report, FullReport, Reset}
 use Rattle.ledger.specs.WellFormed.{WellFormed}
 use Rattle.ledger.specs.Spans.{At, first, later, Leaves, AllLeave}
 use Rattle.ledger.proofs.Places.{Between, Where, here, further, where?, at-none, at-behind}
@@ -16,113 +17,114 @@ use Rattle.ledger.proofs.KeptLine.{side-len}
 use Rattle.ledger.proofs.Cases.{TakeCase, few-spares, no-region, serves, take-case, LiveCase, is-live, not-live, live-case}
 use Rattle.ledger.proofs.CallsWell.{call-well}
 
--- A region of a line that is cut in two: it stands in front, and so it stands there whatever follows, or it stands behind.
-data Side (y : Region) (o start : ℕ) (front rest : List Region) : Type 0 where
-  in-front : ((other : List Region) → At y o (reverseAux front other)) → Side y o start front rest
-  behind : (p : ℕ) → o ≡ start + p → At y p rest → Side y o start front rest
+module _ (E : Engine) (laws : Laws E) where
+  -- A region of a line that is cut in two: it stands in front, and so it stands there whatever follows, or it stands behind.
+  data Side (y : Region) (o start : ℕ) (front rest : List Region) : Type 0 where
+    in-front : ((other : List Region) → At y o (reverseAux front other)) → Side y o start front rest
+    behind : (p : ℕ) → o ≡ start + p → At y p rest → Side y o start front rest
 
-side : {y : Region} {o : ℕ} (front rest : List Region) → At y o (reverseAux front rest) → Side y o (tally len front) front rest
-side {o = o} [] rest a = behind o (omega arith) a
-side {y} {o} (x ∷ front) rest a = go (side front (x ∷ rest) a)
-  where
-    by-place : (p : ℕ) → o ≡ tally len front + p → Where y p x rest → Side y o (tally len (x ∷ front)) (x ∷ front) rest
-    by-place p e (here q z) = in-front (λ other. rw q (at-behind front first (omega arith)))
-    by-place p e (further k z b) = behind k (omega arith) b
-
-    go : Side y o (tally len front) front (x ∷ rest) → Side y o (tally len (x ∷ front)) (x ∷ front) rest
-    go (in-front stays) = in-front (λ other. stays (x ∷ other))
-    go (behind p e b) = by-place p e (where? b)
-
--- a live region is not the free neighbour that a merge takes in, before or after
-side-past : {n r o : ℕ} (before rest : List Region) → At (live n r) o (reverseAux before rest)
-    → Side (live n r) o (tally len before) (past before) rest
-unfolding past
-side-past [] rest a = side [] rest a
-side-past (live m q ∷ before) rest a = side (live m q ∷ before) rest a
-side-past {n} {r} {o} (free m q ∷ before) rest a = go (side before (free m q ∷ rest) a)
-  where
-    by-place : (p : ℕ) → o ≡ tally len before + p → Where (live n r) p (free m q) rest
-        → Side (live n r) o (tally len (free m q ∷ before)) before rest
-    by-place p e (here c z) = clash (cc)
-    by-place p e (further k z b) = behind k (omega arith) b
-
-    go : Side (live n r) o (tally len before) before (free m q ∷ rest) → Side (live n r) o (tally len (free m q ∷ before)) before rest
-    go (in-front stays) = in-front stays
-    go (behind p e b) = by-place p e (where? b)
-
-after-past : {n r o : ℕ} (after : List Region) → At (live n r) o after → (p : ℕ) × (o ≡ gap after + p) × At (live n r) p (past after)
-unfolding gap past
-after-past [] a = absurd (at-none a)
-after-past {o = o} (live m q ∷ after) a = (o, omega arith, a)
-after-past {n} {r} {o} (free m q ∷ after) a = go (where? a)
-  where
-    go : Where (live n r) o (free m q) after → (p : ℕ) × (o ≡ m + p) × At (live n r) p after
-    go (here e z) = clash (cc)
-    go (further p e b) = (p, e, b)
-
--- ---- cut and merge leave it where it is
-cut-leaves : (s k : ℕ) {before after : List Region} {n r m q o : ℕ} (l : Ledger) → Between before (free m q) after (l .line) → s + k ≡ m
-    → At (live n r) o (l .line) → At (live n r) o (cut s k before m q after l .line)
-unfolding cut
-cut-leaves s k {before} {after} {n} {r} {m} {q} {o} l b e a = go k e (side before (free m q ∷ after) (rw (b .line-is) at a))
-  where
-    moved : (k : ℕ) → s + k ≡ m → (p : ℕ) → o ≡ tally len before + p → Where (live n r) p (free m q) after
-        → At (live n r) o (cut s k before m q after l .line)
-    moved k e p z (here c w) = clash (cc)
-    moved zero e p z (further j w c) = at-behind before (later {y = live s q} c) (omega arith)
-    moved (suc k) e p z (further j w c) =
-        at-behind before (later {y = live s q} (later {y = free (suc k) (getD (l .pile) 0 0)} c)) (omega arith)
-
-    go : (k : ℕ) → s + k ≡ m → Side (live n r) o (tally len before) before (free m q ∷ after)
-        → At (live n r) o (cut s k before m q after l .line)
-    go zero e (in-front stays) = stays _
-    go (suc k) e (in-front stays) = stays _
-    go zero e (behind p z c) = moved zero e p z (where? c)
-    go (suc k) e (behind p z c) = moved (suc k) e p z (where? c)
-
-merge-leaves : {before after : List Region} {n r m q o : ℕ} (l : Ledger) → Between before (live m q) after (l .line) → q ≢ r
-    → At (live n r) o (l .line) → At (live n r) o (merge before m q after l .line)
-unfolding merge
-merge-leaves {before} {after} {n} {r} {m} {q} {o} l b h a = go (side-past before (live m q ∷ after) (rw (b .line-is) at a))
-  where
-    whole : ℕ
-    whole = gap before + m + gap after
-
-    moved : (p : ℕ) → o ≡ tally len before + p → Where (live n r) p (live m q) after
-        → At (live n r) o (reverseAux (past before) (free whole q ∷ past after))
-    moved p z (here c w) = let number : q ≡ r = cc in absurd (h number)
-    moved p z (further j w c) =
-        let rest = after-past after c in
-        at-behind (past before) (later {y = free whole q} (rest .2)) (omega (arith, side-len before, rest .1))
-
-    go : Side (live n r) o (tally len before) (past before) (live m q ∷ after)
-        → At (live n r) o (reverseAux (past before) (free whole q ∷ past after))
-    go (in-front stays) = stays (free whole q ∷ past after)
-    go (behind p z c) = moved p z (where? c)
-
-module _ (size count : ℕ) (two : 2 ≤ count) where
-  pub call-leaves : (c : Call) (n r o : ℕ) (l : Ledger) → WellFormed size count l → Leaves r c
-      → At (live n r) o (l .line) → At (live n r) o (answer size count c l .1 .line)
-  unfolding answer
-  call-leaves (Take s) n r o l w h a = go (take-case w s)
+  side : {y : Region} {o : ℕ} (front rest : List Region) → At y o (reverseAux front rest) → Side y o (tally len front) front rest
+  side {o = o} [] rest a = behind o (omega arith) a
+  side {y} {o} (x ∷ front) rest a = go (side front (x ∷ rest) a)
     where
-      go : TakeCase s l → At (live n r) o (take s l .1 .line)
-      go (few-spares k e) = rw e a
-      go (no-region k empty e) = rw e a
-      go (serves t) = rw (t .outcome) (cut-leaves s (t .n - s) l (t .place) (omega (arith, t .long-enough)) a)
-  call-leaves (HandBack q) n r o l w h a = go (live-case w q)
-    where
-      go : LiveCase q l → At (live n r) o (handBack q l .1 .line)
-      go (not-live k e z) = rw e a
-      go (is-live m before after b e z) = rw e (merge-leaves l b h a)
-  call-leaves (SizeOf q) n r o l w h a = a
-  call-leaves Report n r o l w h a = a
-  call-leaves FullReport n r o l w h a = a
-  call-leaves Reset n r o l w h a = absurd h
+      by-place : (p : ℕ) → o ≡ tally len front + p → Where y p x rest → Side y o (tally len (x ∷ front)) (x ∷ front) rest
+      by-place p e (here q z) = in-front (λ other. rw q (at-behind front first (omega arith)))
+      by-place p e (further k z b) = behind k (omega arith) b
 
-  pub calls-leave : (cs : List Call) (n r o : ℕ) (l : Ledger) → WellFormed size count l → AllLeave r cs
-      → At (live n r) o (l .line) → At (live n r) o (end size count cs l .line)
-  unfolding end
-  calls-leave [] n r o l w h a = a
-  calls-leave (c ∷ cs) n r o l w h a =
-      calls-leave cs n r o (answer size count c l .1) (call-well size count two c l w) (h .1) (call-leaves c n r o l w (h .0) a)
+      go : Side y o (tally len front) front (x ∷ rest) → Side y o (tally len (x ∷ front)) (x ∷ front) rest
+      go (in-front stays) = in-front (λ other. stays (x ∷ other))
+      go (behind p e b) = by-place p e (where? b)
+
+  -- a live region is not the free neighbour that a merge takes in, before or after
+  side-past : {n r o : ℕ} (before rest : List Region) → At (live n r) o (reverseAux before rest)
+      → Side (live n r) o (tally len before) (past before) rest
+  unfolding past
+  side-past [] rest a = side [] rest a
+  side-past (live m q ∷ before) rest a = side (live m q ∷ before) rest a
+  side-past {n} {r} {o} (free m q ∷ before) rest a = go (side before (free m q ∷ rest) a)
+    where
+      by-place : (p : ℕ) → o ≡ tally len before + p → Where (live n r) p (free m q) rest
+          → Side (live n r) o (tally len (free m q ∷ before)) before rest
+      by-place p e (here c z) = clash (cc)
+      by-place p e (further k z b) = behind k (omega arith) b
+
+      go : Side (live n r) o (tally len before) before (free m q ∷ rest) → Side (live n r) o (tally len (free m q ∷ before)) before rest
+      go (in-front stays) = in-front stays
+      go (behind p e b) = by-place p e (where? b)
+
+  after-past : {n r o : ℕ} (after : List Region) → At (live n r) o after → (p : ℕ) × (o ≡ gap after + p) × At (live n r) p (past after)
+  unfolding gap past
+  after-past [] a = absurd (at-none a)
+  after-past {o = o} (live m q ∷ after) a = (o, omega arith, a)
+  after-past {n} {r} {o} (free m q ∷ after) a = go (where? a)
+    where
+      go : Where (live n r) o (free m q) after → (p : ℕ) × (o ≡ m + p) × At (live n r) p after
+      go (here e z) = clash (cc)
+      go (further p e b) = (p, e, b)
+
+  -- ---- cut and merge leave it where it is
+  cut-leaves : (s k : ℕ) {before after : List Region} {n r m q o : ℕ} (l : Ledger (E .Index)) → Between before (free m q) after (l .line) → s + k ≡ m
+      → At (live n r) o (l .line) → At (live n r) o (cut E s k before m q after l .line)
+  unfolding cut
+  cut-leaves s k {before} {after} {n} {r} {m} {q} {o} l b e a = go k e (side before (free m q ∷ after) (rw (b .line-is) at a))
+    where
+      moved : (k : ℕ) → s + k ≡ m → (p : ℕ) → o ≡ tally len before + p → Where (live n r) p (free m q) after
+          → At (live n r) o (cut E s k before m q after l .line)
+      moved k e p z (here c w) = clash (cc)
+      moved zero e p z (further j w c) = at-behind before (later {y = live s q} c) (omega arith)
+      moved (suc k) e p z (further j w c) =
+          at-behind before (later {y = live s q} (later {y = free (suc k) (getD (l .pile) 0 0)} c)) (omega arith)
+
+      go : (k : ℕ) → s + k ≡ m → Side (live n r) o (tally len before) before (free m q ∷ after)
+          → At (live n r) o (cut E s k before m q after l .line)
+      go zero e (in-front stays) = stays _
+      go (suc k) e (in-front stays) = stays _
+      go zero e (behind p z c) = moved zero e p z (where? c)
+      go (suc k) e (behind p z c) = moved (suc k) e p z (where? c)
+
+  merge-leaves : {before after : List Region} {n r m q o : ℕ} (l : Ledger (E .Index)) → Between before (live m q) after (l .line) → q ≢ r
+      → At (live n r) o (l .line) → At (live n r) o (merge E before m q after l .line)
+  unfolding merge
+  merge-leaves {before} {after} {n} {r} {m} {q} {o} l b h a = go (side-past before (live m q ∷ after) (rw (b .line-is) at a))
+    where
+      whole : ℕ
+      whole = gap before + m + gap after
+
+      moved : (p : ℕ) → o ≡ tally len before + p → Where (live n r) p (live m q) after
+          → At (live n r) o (reverseAux (past before) (free whole q ∷ past after))
+      moved p z (here c w) = let number : q ≡ r = cc in absurd (h number)
+      moved p z (further j w c) =
+          let rest = after-past after c in
+          at-behind (past before) (later {y = free whole q} (rest .2)) (omega (arith, side-len before, rest .1))
+
+      go : Side (live n r) o (tally len before) (past before) (live m q ∷ after)
+          → At (live n r) o (reverseAux (past before) (free whole q ∷ past after))
+      go (in-front stays) = stays (free whole q ∷ past after)
+      go (behind p z c) = moved p z (where? c)
+
+  module _ (size count : ℕ) (two : 2 ≤ count) where
+    pub call-leaves : (c : Call) (n r o : ℕ) (l : Ledger (E .Index)) → WellFormed E size count l → Leaves r c
+        → At (live n r) o (l .line) → At (live n r) o (answer E size count c l .1 .line)
+    unfolding answer
+    call-leaves (Take s) n r o l w h a = go (take-case E laws w s)
+      where
+        go : TakeCase E s l → At (live n r) o (take E s l .1 .line)
+        go (few-spares k e) = rw e a
+        go (no-region k empty e) = rw e a
+        go (serves t) = rw (t .outcome) (cut-leaves s (t .n - s) l (t .place) (omega (arith, t .long-enough)) a)
+    call-leaves (HandBack q) n r o l w h a = go (live-case E w q)
+      where
+        go : LiveCase E q l → At (live n r) o (handBack E q l .1 .line)
+        go (not-live k e z) = rw e a
+        go (is-live m before after b e z) = rw e (merge-leaves l b h a)
+    call-leaves (SizeOf q) n r o l w h a = a
+    call-leaves Report n r o l w h a = a
+    call-leaves FullReport n r o l w h a = a
+    call-leaves Reset n r o l w h a = absurd h
+
+    pub calls-leave : (cs : List Call) (n r o : ℕ) (l : Ledger (E .Index)) → WellFormed E size count l → AllLeave r cs
+        → At (live n r) o (l .line) → At (live n r) o (end E size count cs l .line)
+    unfolding end
+    calls-leave [] n r o l w h a = a
+    calls-leave (c ∷ cs) n r o l w h a =
+        calls-leave cs n r o (answer E size count c l .1) (call-well E laws size count two c l w) (h .1) (call-leaves c n r o l w (h .0) a)

@@ -4,21 +4,21 @@
 use mathlib.Core.Path.{_≡_}
 use Prim.Native.Nat.{ℕ, _≤_}
 use mathlib.Core.List.{List, [], _∷_}
-use Rattle.ledger.specs.Ledger.{Ledger, Answer, granted, done, length-is, refused, live, free, setup, take, report}
+use Rattle.ledger.specs.Ledger.{by-class, Stacks, Ledger, Answer, granted, done, length-is, refused, live, free, setup, take, report}
 use Rattle.ledger.specs.Calls.{Call, Take, HandBack, SizeOf, Report, Reset, answer, end, answers, log}
 use Rattle.ledger.specs.Stretch.{Stretch}
 use Rattle.ledger.specs.Claims.{Reached}
 
 -- each call's answer with the report after it
-unfoldable pub follow : ℕ → ℕ → List Call → Ledger → List (Answer × (ℕ × ℕ))
+unfoldable pub follow : ℕ → ℕ → List Call → Ledger Stacks → List (Answer × (ℕ × ℕ))
 unfolding answer report
 follow size count [] l = []
 follow size count (c ∷ cs) l =
-    let a = answer size count c l in
-    (a .0, report (a .1)) ∷ follow size count cs (a .1)
+    let a = answer by-class size count c l in
+    (a .0, report by-class (a .1)) ∷ follow size count cs (a .1)
 
 abbrev pub Answering : ℕ → ℕ → List Call → List Answer → Type 0
-Answering size count calls expected = answers size count calls (setup size count) ≡ expected
+Answering size count calls expected = answers by-class size count calls (setup by-class size count) ≡ expected
 
 -- ---- "Size 100, count 6. Report 100, 96."
 abbrev pub the-calls : List Call
@@ -52,15 +52,15 @@ the-answers =
     ∷ []
 
 pub record DocumentRun : Type 0 where
-  pub first-report : report (setup 100 6) ≡ (100, 96)
-  pub the-run : follow 100 6 the-calls (setup 100 6) ≡ the-answers
+  pub first-report : report by-class (setup by-class 100 6) ≡ (100, 96)
+  pub the-run : follow 100 6 the-calls (setup by-class 100 6) ≡ the-answers
   -- "The one region now belongs to record 2"
-  pub record-2 : end 100 6 the-calls (setup 100 6) .line ≡ free 100 2 ∷ []
+  pub record-2 : end by-class 100 6 the-calls (setup by-class 100 6) .line ≡ free 100 2 ∷ []
 
 -- ---- the sentences after the run, each over all that it speaks of
 pub record SmallStores : Type 0 where
   -- "2 accepted though every take gives 3" (which counts are accepted is the setup call's to say, not the ledger's)
-  pub count-2 : (size s : ℕ) (l : Ledger) → Reached size 2 l → take s l .0 ≡ refused 3
+  pub count-2 : (size s : ℕ) (l : Ledger Stacks) → Reached by-class size 2 l → take by-class s l .0 ≡ refused 3
   -- "With count 3 or more, a fresh store of 17 grants 16, or refuses 17"
   pub grants-16 : (count : ℕ) → 3 ≤ count → Answering 17 count (Take 16 ∷ []) (granted 0 0 ∷ [])
   pub refuses-17 : (count : ℕ) → 3 ≤ count → Answering 17 count (Take 17 ∷ []) (refused 4 ∷ [])
@@ -96,12 +96,12 @@ pub record ZeroLength : Type 0 where
   -- "two may share an offset"
   pub one-offset : Answering 100 6 (Take 0 ∷ Take 0 ∷ []) (granted 0 0 ∷ granted 0 1 ∷ [])
   -- "a live one between two free regions keeps them from merging"
-  pub kept-apart : end 100 6 (Take 20 ∷ Take 0 ∷ HandBack 0 ∷ []) (setup 100 6) .line ≡ free 20 0 ∷ live 0 1 ∷ free 80 2 ∷ []
+  pub kept-apart : end by-class 100 6 (Take 20 ∷ Take 0 ∷ HandBack 0 ∷ []) (setup by-class 100 6) .line ≡ free 20 0 ∷ live 0 1 ∷ free 80 2 ∷ []
 
 -- ---- demand 3 is not about nothing, and needs its 'last granted first'
 pub record StretchExamples : Type 0 where
   -- a stretch, with a refused take and a report in it
-  pub a-stretch : Stretch [] (log 100 6 (Take 20 ∷ Take 30 ∷ Take 99 ∷ HandBack 1 ∷ Report ∷ HandBack 0 ∷ []) (setup 100 6))
+  pub a-stretch : Stretch [] (log by-class 100 6 (Take 20 ∷ Take 30 ∷ Take 99 ∷ HandBack 1 ∷ Report ∷ HandBack 0 ∷ []) (setup by-class 100 6))
   -- two spans handed back last granted first leave the ledger as it was; the later take has record 0
   pub in-order : Answering 100 6 (Take 20 ∷ Take 30 ∷ HandBack 1 ∷ HandBack 0 ∷ Take 40 ∷ [])
       (granted 0 0 ∷ granted 20 1 ∷ done ∷ done ∷ granted 0 0 ∷ [])

@@ -10,15 +10,16 @@ use borrow.Author.Tests.{lt-ltb, le-ltb}
 use Rattle.basics.specs.Sum.{one, is, tally}
 use Rattle.basics.proofs.Sums.{tally-le, tally-reverseAux}
 use Rattle.small_float.proofs.Rounding.{down-most}
-use Rattle.ledger.specs.Ledger.{Ledger, Region, live, free, len, freeLen, Answer, done, length-is}
+use Rattle.ledger.specs.Ledger.{Ledger, Region, live, free, len, freeLen, stands, Answer, done, length-is, by-class, Stacks}
 use Rattle.ledger.specs.Ledger.{handBack, merge, gap, owed, past, unlist}
-use Rattle.ledger.specs.WellFormed.{WellFormed, has, stands}
+use Rattle.ledger.specs.WellFormed.{WellFormed, has}
 use Rattle.ledger.proofs.Places.{Between, sum-at}
 use Rattle.ledger.proofs.Find.{at}
 use Rattle.ledger.proofs.KeptStacks.{stands-le, side-stands}
 use Rattle.ledger.proofs.Records.{all-records}
 use Rattle.ledger.proofs.Cases.{LiveCase, is-live, not-live, live-case}
 use Rattle.ledger.proofs.CallsWell.{hand-back-well}
+use Rattle.ledger.proofs.ByClass.{class-laws}
 use Rattle.tables.specs.Layout.{neighborPrev, neighborNext, word}
 use Rattle.tables.specs.Words.{Words, Edition, bounds}
 use Rattle.tables.specs.Steps.{insertAt, insert, unlinkAt, unlink, pushPile}
@@ -43,14 +44,14 @@ side-free [] = refl
 side-free (live n r ∷ rest) = omega arith
 side-free (free n r ∷ rest) = omega arith
 
-module _ (E : Edition) (w : Words) (l : Ledger) (S : Sound E w l) (r : ℕ) where
+module _ (E : Edition) (w : Words) (l : Ledger Stacks) (S : Sound E w l) (r : ℕ) where
   module _ (n : ℕ) (before after : List Region) (place : Between before (live n r) after (l .line)) where
     -- ---- the two sides
     reads : Reads (w .nodes) 0 (reverse before) × Reads (w .nodes) (0 + tally len (reverse before)) (live n r ∷ after)
     reads = reads-at (w .nodes) place (S .reads)
 
-    st : Standing (bounds E w) w (reverse before ++ live n r ∷ after) (l .stacks) (l .pile)
-    st = subst (λ (line : List Region). Standing (bounds E w) w line (l .stacks) (l .pile))
+    st : Standing (bounds E w) w (reverse before ++ live n r ∷ after) (l .index) (l .pile)
+    st = subst (λ (line : List Region). Standing (bounds E w) w line (l .index) (l .pile))
         (place .line-is ∙ reverseAux-eq before (live n r ∷ after)) (standing E w l S)
 
     chain : Chain (w .nodes) (E .none) (recs (reverse before)) r
@@ -59,13 +60,13 @@ module _ (E : Edition) (w : Words) (l : Ledger) (S : Sound E w l) (r : ℕ) wher
         (rw (recs-append (reverse before) (live n r ∷ after)) at (st .chain))
 
     -- what the stacks hold is what stands on the two sides
-    held : (d q : ℕ) → tally (is q) (l .stacks d) ≡ tally (stands d q) before + tally (stands d q) after
-    held d q = omega (arith, S .well .stacked .exactly d q, sum-at place (stands d q))
+    held : (d q : ℕ) → tally (is q) (l .index d) ≡ tally (stands d q) before + tally (stands d q) after
+    held d q = omega (arith, S .well .kept .exactly d q, sum-at place (stands d q))
 
     in-reverse : (q : ℕ) → tally (has q) (reverse before) ≡ tally (has q) before + 0
     in-reverse q = tally-reverseAux (has q) before []
 
-    own-gap : Gap (bounds E w) w (reverse before) after (l .stacks) (l .pile) r n
+    own-gap : Gap (bounds E w) w (reverse before) after (l .index) (l .pile) r n
     own-gap = record {
       shelf = st .shelf;
       reads-before = reads .0;
@@ -92,16 +93,17 @@ module _ (E : Edition) (w : Words) (l : Ledger) (S : Sound E w l) (r : ℕ) wher
     abbrev x : ℕ
     x = first (recs after) (E .none)
 
-    B : SideBefore E w r n before after (l .stacks) (l .pile) p
-    B = side-before E w r n before after (l .stacks) (l .pile) own-gap (λ d q. omega (arith, held d q)) (omega (arith, reads .1 .0))
+    B : SideBefore E w r n before after (l .index) (l .pile) p
+    B = side-before E w r n before after (l .index) (l .pile) own-gap (λ d q. omega (arith, held d q)) (omega (arith, reads .1 .0))
 
     abbrev v : Words
     v = dropIf (bounds E w) (opens before) p w
 
-    A : SideAfter E w r n v (reverse (past before)) after (unlist before (l .stacks)) (owed before ++ l .pile) (gap before + n) x
-    A = side-after E w r n v (reverse (past before)) after (0 + tally len (reverse before) + n) (unlist before (l .stacks)) (owed before ++ l .pile)
+    A : SideAfter E w r n v (reverse (past before)) after (unlist by-class before (l .index)) (owed before ++ l .pile) (gap before + n) x
+    A = side-after E w r n v (reverse (past before)) after (0 + tally len (reverse before) + n)
+        (unlist by-class before (l .index)) (owed before ++ l .pile)
         (gap before + n) (B .gap-is)
-        (λ d q. omega (arith, held d q, side-stands (l .stacks) before (λ c i. omega (arith, held c i)) d q)) (reads .1 .3) (chain .1 .2)
+        (λ d q. omega (arith, held d q, side-stands (l .index) before (λ c i. omega (arith, held c i)) d q)) (reads .1 .3) (chain .1 .2)
 
     -- ---- so the plan finds what the ledger says of the merged region
     abbrev whole : ℕ
@@ -126,23 +128,25 @@ module _ (E : Edition) (w : Words) (l : Ledger) (S : Sound E w l) (r : ℕ) wher
       total = w .total + reads .1 .1 i;
     }
 
-    module _ (outcome : handBack r l ≡ (done, merge before n r after l)) where
-      next-well : WellFormed (w .size) (w .count) (merge before n r after l)
-      next-well = subst (λ (a : Answer × Ledger). WellFormed (w .size) (w .count) (a .1)) outcome (hand-back-well (w .size) (w .count) r l (S .well))
+    module _ (outcome : handBack by-class r l ≡ (done, merge by-class before n r after l)) where
+      next-well : WellFormed by-class (w .size) (w .count) (merge by-class before n r after l)
+      next-well = subst (λ (a : Answer × Ledger Stacks). WellFormed by-class (w .size) (w .count) (a .1)) outcome
+          (hand-back-well by-class class-laws (w .size) (w .count) r l (S .well))
 
       -- its numbers are within their limits, the ledger after it being in order
-      next-sum : (f : Region → ℕ) → tally f (merge before n r after l .line) ≡ tally f (past before) + (f (free whole r) + tally f (past after))
+      next-sum : (f : Region → ℕ)
+          → tally f (merge by-class before n r after l .line) ≡ tally f (past before) + (f (free whole r) + tally f (past after))
       unfolding merge
       next-sum f = tally-reverseAux f (past before) (free whole r ∷ past after)
 
-      total-is : w .total + n ≡ tally freeLen (merge before n r after l .line)
+      total-is : w .total + n ≡ tally freeLen (merge by-class before n r after l .line)
       total-is = omega (arith, S .sum, sum-at place freeLen, next-sum freeLen, side-free before, side-free after)
 
       whole-most : whole ≤ w .size
       whole-most = omega (arith, next-well .lined .cover, next-sum len)
 
       total-most : w .total + n ≤ w .size
-      total-most = omega (arith, next-well .lined .cover, total-is, tally-le freeLen len free-most (merge before n r after l .line))
+      total-most = omega (arith, next-well .lined .cover, total-is, tally-le freeLen len free-most (merge by-class before n r after l .line))
 
       off-below : w .off + one (opens before) + one (opens after) < w .count
       off-below = unfold merge in omega (
@@ -183,24 +187,26 @@ module _ (E : Edition) (w : Words) (l : Ledger) (S : Sound E w l) (r : ℕ) wher
       abbrev u : Words
       u = dropIf (bounds E w) (opens after) x v
 
-      merging-sound : Sound E (merging (bounds E w) w r p x (opens before) (opens after) merged) (merge before n r after l)
+      merging-sound : Sound E (merging (bounds E w) w r p x (opens before) (opens after) merged) (merge by-class before n r after l)
       unfolding merging merge
       merging-sound = sound-from E (insert (bounds E w) u whole (merged .start) r (merged .before) (merged .after)) (w .total + n)
-          (merge before n r after l) (w .size) (w .count)
+          (merge by-class before n r after l) (w .size) (w .count)
           (unfold insert insertAt in drop-size (opens after) x v ∙ drop-size (opens before) p w)
           (unfold insert insertAt in drop-count (opens after) x v ∙ drop-count (opens before) p w)
           (S .count-low) (S .count-high) (S .size-fits) next-well
           (rw (reverseAux-eq (past before) (free whole r ∷ past after))
-          (placed (bounds E w) u (reverse (past before)) (past after) (unlist after (unlist before (l .stacks))) (owed after ++ (owed before ++ l .pile))
+          (placed (bounds E w) u (reverse (past before)) (past after) (unlist by-class after (unlist by-class before (l .index)))
+          (owed after ++ (owed before ++ l .pile))
           r whole (merged .start) (merged .before) (merged .after) (A .gap-is)
           (omega (arith, down-most whole (omega (arith, whole-most, S .size-fits)))) refl refl refl))
           total-is
 
   -- ---- the call
-  pub back-sound : (backWords E w r .0 ≡ handBack r l .0) × Sound E (backWords E w r .1) (handBack r l .1)
+  pub back-sound : (backWords E w r .0 ≡ handBack by-class r l .0) × Sound E (backWords E w r .1) (handBack by-class r l .1)
   unfolding backWords doBack
-  back-sound = rw (passes E w l S (doBack E w r (planBack w r))) (go (live-case (S .well) r))
+  back-sound = rw (passes E w l S (doBack E w r (planBack w r))) (go (live-case by-class (S .well) r))
     where
-      go : LiveCase r l → (doBack E w r (planBack w r) .0 ≡ handBack r l .0) × Sound E (doBack E w r (planBack w r) .1) (handBack r l .1)
+      go : LiveCase by-class r l
+          → (doBack E w r (planBack w r) .0 ≡ handBack by-class r l .0) × Sound E (doBack E w r (planBack w r) .1) (handBack by-class r l .1)
       go (is-live n before after place e q) = rw (plan-is n before after place e, e) (refl, merging-sound n before after place e)
       go (not-live h e q) = let idle : planBack w r ≡ stop 5 = unfold planBack in rw (known-idle E w l S r h) in rw (idle, e) (refl, S)

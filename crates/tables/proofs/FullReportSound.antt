@@ -12,7 +12,7 @@ use Rattle.basics.proofs.Sums.{held-first}
 use Rattle.basics.proofs.Counts.{In, in-tail}
 use Rattle.basics.proofs.Pigeons.{pigeons}
 use Rattle.small_float.specs.Class.{shownValue}
-use Rattle.ledger.specs.Ledger.{Ledger, classes, fullReport, fullAt, numbersFrom}
+use Rattle.ledger.specs.Ledger.{Ledger, classes, fullOf, fullAt, numbersFrom, Stacks}
 use Rattle.tables.specs.Words.{Words, Edition, bounds}
 use Rattle.tables.specs.Questions.{steps, listLength, counts, noted, countFrom, fullAnswer, fullWords}
 use Rattle.tables.specs.Linked.{first}
@@ -20,7 +20,7 @@ use Rattle.tables.specs.Sound.{Sound}
 use Rattle.tables.proofs.Shelf.{Bin, in-below, in-distinct}
 use Rattle.tables.proofs.SoundOf.{passes, count-none, shelf-of}
 
-module _ (E : Edition) (w : Words) (l : Ledger) (S : Sound E w l) where
+module _ (E : Edition) (w : Words) (l : Ledger Stacks) (S : Sound E w l) where
   -- the length of a list, walked
   walked : (xs : List ℕ) (fuel p n : ℕ) → length xs ≤ fuel → ((q : ℕ) → In q xs → q < w .count) → Bin (w .nodes) p xs (E .none)
       → listLength fuel (w .nodes) (w .count) (first xs (E .none)) n ≡ steps (n + length xs)
@@ -33,40 +33,40 @@ module _ (E : Edition) (w : Words) (l : Ledger) (S : Sound E w l) where
       rw (lt-ltb x (w .count) (h x (held-first x xs)), k .1)
       (walked xs fuel x (n + 1) (omega arith) (λ q m. h q (in-tail q x xs m)) (k .2) ∙ ap steps one-more)
 
-  list-length : (c : ℕ) → c < 256 → listLength (w .count) (w .nodes) (w .count) (getD (w .heads) c 0) 0 ≡ steps (length (l .stacks c))
+  list-length : (c : ℕ) → c < 256 → listLength (w .count) (w .nodes) (w .count) (getD (w .heads) c 0) 0 ≡ steps (length (l .index c))
   list-length c h =
-      let below-count = in-below (bounds E w) w (l .stacks) (l .pile) (shelf-of E w l S) c in
-      let few = pigeons (w .count) (l .stacks c) below-count (in-distinct (bounds E w) w (l .stacks) (l .pile) (shelf-of E w l S) c) in
+      let below-count = in-below (bounds E w) w (l .index) (l .pile) (shelf-of E w l S) c in
+      let few = pigeons (w .count) (l .index c) below-count (in-distinct (bounds E w) w (l .index) (l .pile) (shelf-of E w l S) c) in
       ap (λ (a : ℕ). listLength (w .count) (w .nodes) (w .count) a 0) (S .tops c h)
-      ∙ walked (l .stacks c) (w .count) (E .none) 0 few below-count (S .lists c)
-      ∙ ap steps (zero-add (length (l .stacks c)))
+      ∙ walked (l .index c) (w .count) (E .none) 0 few below-count (S .lists c)
+      ∙ ap steps (zero-add (length (l .index c)))
 
   -- the lengths of the k stacks from c on, written over so-far
   lengths : ℕ → ℕ → List ℕ → List ℕ
   lengths zero c so-far = so-far
-  lengths (suc k) c so-far = lengths k (suc c) (set so-far c (length (l .stacks c)))
+  lengths (suc k) c so-far = lengths k (suc c) (set so-far c (length (l .index c)))
 
   counted : (k c : ℕ) (so-far : List ℕ) → c + k ≡ 256 → countFrom k w c so-far ≡ counts (lengths k c so-far)
   unfolding countFrom noted lengths
   counted zero c so-far e = refl
-  counted (suc k) c so-far e = rw (list-length c (omega arith)) (counted k (suc c) (set so-far c (length (l .stacks c))) (omega arith))
+  counted (suc k) c so-far e = rw (list-length c (omega arith)) (counted k (suc c) (set so-far c (length (l .index c))) (omega arith))
 
   before-kept : (k c : ℕ) (so-far : List ℕ) (d : ℕ) → d < c → getD (lengths k c so-far) d 0 ≡ getD so-far d 0
   unfolding lengths
   before-kept zero c so-far d h = refl
   before-kept (suc k) c so-far d h =
-      before-kept k (suc c) (set so-far c (length (l .stacks c))) d (omega arith)
-      ∙ getD-set-other so-far c d (length (l .stacks c)) 0 (omega arith)
+      before-kept k (suc c) (set so-far c (length (l .index c))) d (omega arith)
+      ∙ getD-set-other so-far c d (length (l .index c)) 0 (omega arith)
 
   length-at : (k c : ℕ) (so-far : List ℕ) (d : ℕ) → length so-far ≡ c + k → c ≤ d → d < c + k
-      → getD (lengths k c so-far) d 0 ≡ length (l .stacks d)
+      → getD (lengths k c so-far) d 0 ≡ length (l .index d)
   unfolding lengths
   length-at zero c so-far d e g h = absurd (omega arith)
   length-at (suc k) c so-far d e g h = elim (same? d c) [
-    | same q _ ↦ before-kept k (suc c) (set so-far c (length (l .stacks c))) d (omega arith)
-        ∙ rw q (getD-set-same so-far c (length (l .stacks c)) 0 (omega arith))
-    | differ q _ ↦ length-at k (suc c) (set so-far c (length (l .stacks c))) d
-        (length-set so-far c (length (l .stacks c)) ∙ e ∙ omega arith) (omega arith) (omega arith)
+    | same q _ ↦ before-kept k (suc c) (set so-far c (length (l .index c))) d (omega arith)
+        ∙ rw q (getD-set-same so-far c (length (l .index c)) 0 (omega arith))
+    | differ q _ ↦ length-at k (suc c) (set so-far c (length (l .index c))) d
+        (length-set so-far c (length (l .index c)) ∙ e ∙ omega arith) (omega arith) (omega arith)
   ]
 
   -- two columns alike on the numbers from r on
@@ -75,14 +75,15 @@ module _ (E : Edition) (w : Words) (l : Ledger) (S : Sound E w l) where
   map-numbers f g zero r h = refl
   map-numbers f g (suc n) r h = ap₂ {C = List (ℕ × ℕ)} _∷_ (h r (omega arith)) (map-numbers f g n (suc r) (λ c k. h c (omega arith)))
 
-  full-is : fullAnswer (countFrom 256 w 0 (replicate 256 0)) ≡ classes (fullReport l)
+  full-is : fullAnswer (countFrom 256 w 0 (replicate 256 0)) ≡ classes (fullOf (l .index))
   full-is =
       ap fullAnswer (counted 256 0 (replicate 256 0) refl)
-      ∙ unfold fullAnswer fullReport in ap classes (map-numbers (λ c. (shownValue c, getD (lengths 256 0 (replicate 256 0)) c 0)) (fullAt l) 256 0 row)
+      ∙ unfold fullAnswer fullOf in
+      ap classes (map-numbers (λ c. (shownValue c, getD (lengths 256 0 (replicate 256 0)) c 0)) (fullAt (l .index)) 256 0 row)
     where
-      row : (c : ℕ) → c < 0 + 256 → (shownValue c, getD (lengths 256 0 (replicate 256 0)) c 0) ≡ fullAt l c
+      row : (c : ℕ) → c < 0 + 256 → (shownValue c, getD (lengths 256 0 (replicate 256 0)) c 0) ≡ fullAt (l .index) c
       row c h = unfold fullAt in λ i. (shownValue c, length-at 256 0 (replicate 256 0) c (length-replicate {A = ℕ} 256 0) (omega arith) h i)
 
-  pub full-sound : (fullWords E w .0 ≡ classes (fullReport l)) × Sound E (fullWords E w .1) l
+  pub full-sound : (fullWords E w .0 ≡ classes (fullOf (l .index))) × Sound E (fullWords E w .1) l
   unfolding fullWords
   full-sound = rw (passes E w l S (fullAnswer (countFrom 256 w 0 (replicate 256 0)), w)) (full-is, S)

@@ -2,7 +2,7 @@
 use mathlib.Core.Path.{_≡_, sym, ap, subst, _∙_}
 use mathlib.Core.List.{List}
 use Prim.Native.Nat.{ℕ}
-use Rattle.ledger.specs.Ledger.{Answer, setup}
+use Rattle.ledger.specs.Ledger.{Answer, setup, by-class}
 use Rattle.ledger.specs.Calls.{Call, answer}
 use Rattle.tables.specs.Words.{Words, Edition}
 use Rattle.tables.specs.Setup.{setupWords}
@@ -21,7 +21,7 @@ module _ (E : Edition) (c : Call) (w : Words) {v : Words} {a : Answer} where
     exact = e;
     ledger = λ l s.
         let kept = call-sound E w l s c in
-        (answer-is ∙ kept .0, subst (λ (u : Words). Sound E u (answer (w .size) (w .count) c l .1)) (sym words-are) (kept .1));
+        (answer-is ∙ kept .0, subst (λ (u : Words). Sound E u (answer by-class (w .size) (w .count) c l .1)) (sym words-are) (kept .1));
     kept = λ k q. words-are ∙ refused-kept E c w k (sym answer-is ∙ q);
     inside = λ s o r q g.
         grant-inside E w s o r (ap (λ (x : Call). answerWords E x w .0) (sym q) ∙ (sym answer-is ∙ g));
@@ -44,7 +44,7 @@ pub setup-promise : (E : Edition) (size count : ℕ) (nodes pile : List ℕ) {v 
 setup-promise E size count nodes pile {v} {a} e = record {
   exact = e;
   ledger = λ small q.
-      subst (λ (u : Words). Sound E u (setup size count)) (sym words-are) (setup-sound E size count nodes pile small (sym answer-is ∙ q));
+      subst (λ (u : Words). Sound E u (setup by-class size count)) (sym words-are) (setup-sound E size count nodes pile small (sym answer-is ∙ q));
   kept = λ k q. words-are ∙ setup-refused E size count nodes pile k (sym answer-is ∙ q);
 }
   where

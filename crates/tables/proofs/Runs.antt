@@ -3,7 +3,7 @@ use mathlib.Core.Path.{_≡_, refl, ap, ap₂, sym, _∙_, subst}
 use mathlib.Core.List.{List, [], _∷_}
 use Prim.Native.Nat.{ℕ, _^_, _≤_, _<_}
 use native.Mathlib.Omega.{arith}
-use Rattle.ledger.specs.Ledger.{Ledger, Answer, done, refused, setup}
+use Rattle.ledger.specs.Ledger.{Ledger, Answer, done, refused, setup, by-class, Stacks}
 use Rattle.ledger.specs.Calls.{Call, Take, HandBack, SizeOf, Report, FullReport, Reset, Event, event, answer, end, answers, log}
 use Rattle.ledger.specs.WellFormed.{WellFormed}
 use Rattle.ledger.specs.Stretch.{Stretch}
@@ -12,6 +12,7 @@ use Rattle.ledger.proofs.Records.{all-records}
 use Rattle.ledger.proofs.CallsWell.{setup-well, call-well}
 use Rattle.ledger.proofs.Refusals.{no-other}
 use Rattle.ledger.proofs.Stretch.{stretch-restores}
+use Rattle.ledger.proofs.ByClass.{class-laws}
 use Rattle.tables.specs.Words.{Words, Edition}
 use Rattle.tables.specs.Setup.{setupWords}
 use Rattle.tables.specs.Calls.{answerWords, endWords, answersWords, logWords}
@@ -33,8 +34,9 @@ below-6 unknown = omega arith
 
 module _ (E : Edition) where
   -- ---- one call
-  pub call-sound : (w : Words) (l : Ledger) → Sound E w l → (c : Call)
-      → (answerWords E c w .0 ≡ answer (w .size) (w .count) c l .0) × Sound E (answerWords E c w .1) (answer (w .size) (w .count) c l .1)
+  pub call-sound : (w : Words) (l : Ledger Stacks) → Sound E w l → (c : Call)
+      → (answerWords E c w .0 ≡ answer by-class (w .size) (w .count) c l .0)
+      × Sound E (answerWords E c w .1) (answer by-class (w .size) (w .count) c l .1)
   unfolding answerWords answer
   call-sound w l S (Take s) = take-sound E w l S s
   call-sound w l S (HandBack r) = back-sound E w l S r
@@ -44,51 +46,53 @@ module _ (E : Edition) where
   call-sound w l S Reset = reset-sound E w (S .size-fits) (room-of E w l S)
 
   -- the ledger gives no refusal from 6 on, so the words do not
-  pub never-6 : (w : Words) (l : Ledger) → Sound E w l → (c : Call) → ¬ (answerWords E c w .0 ≡ refused 6)
-  never-6 w l S c e = omega (arith, below-6 (no-other (w .size) (w .count) c 6 l (S .well) (sym (call-sound w l S c .0) ∙ e)))
+  pub never-6 : (w : Words) (l : Ledger Stacks) → Sound E w l → (c : Call) → ¬ (answerWords E c w .0 ≡ refused 6)
+  never-6 w l S c e = omega (arith, below-6 (no-other by-class class-laws (w .size) (w .count) c 6 l (S .well) (sym (call-sound w l S c .0) ∙ e)))
 
   -- ---- runs
   -- one call of a run on a store of this size and count: both are the ledger's own, so the words have them
-  step-sound : (size count : ℕ) (c : Call) (w : Words) (l : Ledger) → WellFormed size count l → Sound E w l
-      → (answerWords E c w .0 ≡ answer size count c l .0) × Sound E (answerWords E c w .1) (answer size count c l .1)
+  step-sound : (size count : ℕ) (c : Call) (w : Words) (l : Ledger Stacks) → WellFormed by-class size count l → Sound E w l
+      → (answerWords E c w .0 ≡ answer by-class size count c l .0) × Sound E (answerWords E c w .1) (answer by-class size count c l .1)
   step-sound size count c w l f S =
       let size-is : w .size ≡ size = sym (S .well .lined .cover) ∙ f .lined .cover in
       let count-is : w .count ≡ count = sym (all-records (S .well .lined)) ∙ all-records (f .lined) in
       rw (← size-is, ← count-is) (call-sound w l S c)
 
   -- the log of a run has its answers, and the words at its end stand for the ledger at its end
-  run-sound : (size count : ℕ) → 2 ≤ count → (cs : List Call) (w : Words) (l : Ledger) → WellFormed size count l → Sound E w l
-      → (answersWords E cs w ≡ answers size count cs l) × (logWords E cs w ≡ log size count cs l)
-      × Sound E (endWords E cs w) (end size count cs l)
+  run-sound : (size count : ℕ) → 2 ≤ count → (cs : List Call) (w : Words) (l : Ledger Stacks) → WellFormed by-class size count l → Sound E w l
+      → (answersWords E cs w ≡ answers by-class size count cs l) × (logWords E cs w ≡ log by-class size count cs l)
+      × Sound E (endWords E cs w) (end by-class size count cs l)
   unfolding answersWords logWords endWords answers log end
   run-sound size count two [] w l f S = (refl, refl, S)
   run-sound size count two (c ∷ cs) w l f S =
       let this = step-sound size count c w l f S in
-      let rest = run-sound size count two cs (answerWords E c w .1) (answer size count c l .1) (call-well size count two c l f) (this .1) in
+      let rest = run-sound size count two cs (answerWords E c w .1) (answer by-class size count c l .1)
+      (call-well by-class class-laws size count two c l f) (this .1) in
       (ap₂ {C = List Answer} _∷_ (this .0) (rest .0), ap₂ {C = List Event} _∷_ (ap (event c) (this .0)) (rest .1), rest .2)
 
   -- words that stand for one ledger answer alike for ever, whatever their spare records hold
-  pub alike : (w v : Words) (l : Ledger) → Sound E w l → Sound E v l → (cs : List Call) → answersWords E cs w ≡ answersWords E cs v
+  pub alike : (w v : Words) (l : Ledger Stacks) → Sound E w l → Sound E v l → (cs : List Call) → answersWords E cs w ≡ answersWords E cs v
   alike w v l S T cs =
       run-sound (w .size) (w .count) (S .count-low) cs w l (S .well) S .0
       ∙ sym (run-sound (w .size) (w .count) (S .count-low) cs v l (S .well) T .0)
 
   -- ---- from an accepted setup on
   pub demand-2 : (size count : ℕ) (nodes pile : List ℕ) → size < 2 ^ 32 → setupWords E size count nodes pile .0 ≡ done → (cs : List Call)
-      → (answersWords E cs (setupWords E size count nodes pile .1) ≡ answers size count cs (setup size count))
-      × Sound E (endWords E cs (setupWords E size count nodes pile .1)) (end size count cs (setup size count))
+      → (answersWords E cs (setupWords E size count nodes pile .1) ≡ answers by-class size count cs (setup by-class size count))
+      × Sound E (endWords E cs (setupWords E size count nodes pile .1)) (end by-class size count cs (setup by-class size count))
   demand-2 size count nodes pile small accepted cs =
       let two : 2 ≤ count = setup-done E size count nodes pile .0 accepted .count-low in
-      let run = run-sound size count two cs (setupWords E size count nodes pile .1) (setup size count) (setup-well size count two)
+      let run = run-sound size count two cs (setupWords E size count nodes pile .1) (setup by-class size count)
+      (setup-well by-class class-laws size count two)
       (setup-sound E size count nodes pile small accepted) in
       (run .0, run .2)
 
   -- the ledger is the same after the stretch, so the words on both sides of it stand for one ledger
-  stretch-alike : (w : Words) (l : Ledger) → Sound E w l → (cs : List Call) → Stretch [] (logWords E cs w) → (later-calls : List Call)
+  stretch-alike : (w : Words) (l : Ledger Stacks) → Sound E w l → (cs : List Call) → Stretch [] (logWords E cs w) → (later-calls : List Call)
       → answersWords E later-calls (endWords E cs w) ≡ answersWords E later-calls w
   stretch-alike w l S cs h later-calls =
       let run = run-sound (w .size) (w .count) (S .count-low) cs w l (S .well) S in
-      let restored = stretch-restores (w .size) (w .count) cs l (S .well) (subst (Stretch []) (run .1) h) in
+      let restored = stretch-restores by-class class-laws (w .size) (w .count) cs l (S .well) (subst (Stretch []) (run .1) h) in
       alike (endWords E cs w) w l (subst (Sound E (endWords E cs w)) restored (run .2)) S later-calls
 
   pub demand-3 : (size count : ℕ) (nodes pile : List ℕ) → size < 2 ^ 32 → setupWords E size count nodes pile .0 ≡ done → (before : List Call)
@@ -97,5 +101,5 @@ module _ (E : Edition) where
       → answersWords E later-calls (endWords E cs (endWords E before (setupWords E size count nodes pile .1)))
       ≡ answersWords E later-calls (endWords E before (setupWords E size count nodes pile .1))
   demand-3 size count nodes pile small accepted before cs h later-calls =
-      stretch-alike (endWords E before (setupWords E size count nodes pile .1)) (end size count before (setup size count))
+      stretch-alike (endWords E before (setupWords E size count nodes pile .1)) (end by-class size count before (setup by-class size count))
       (demand-2 size count nodes pile small accepted before .1) cs h later-calls

@@ -8,10 +8,11 @@ use lib.ListN.{length, getD, replicate, length-replicate, getD-replicate}
 use Rattle.basics.specs.Sum.{one, is, tally}
 use Rattle.basics.proofs.Counts.{one-below}
 use Rattle.small_float.proofs.Rounding.{down-most}
-use Rattle.ledger.specs.Ledger.{done, numbersFrom, setup}
+use Rattle.ledger.specs.Ledger.{done, numbersFrom, setup, by-class}
 use Rattle.ledger.specs.Calls.{Reset}
 use Rattle.ledger.proofs.Numbers.{length-numbersFrom}
 use Rattle.ledger.proofs.CallsWell.{setup-well}
+use Rattle.ledger.proofs.ByClass.{class-laws}
 use Rattle.tables.specs.Words.{Words, Edition, Bounds}
 use Rattle.tables.specs.Steps.{insertAt, insert, popPile}
 use Rattle.tables.specs.Gate.{gateOf}
@@ -44,7 +45,7 @@ module _ (E : Edition) (size count : ℕ) (nodes pile : List ℕ) (size-fits : s
 
   -- each number below the count is 0 or one of the others
   once : (q : ℕ) → is q 0 + tally (is q) others ≡ one (ltb q count)
-  once q = unfold setup in omega (arith, setup-well size count (R .count-low) .lined .once q)
+  once q = unfold setup in omega (arith, setup-well by-class class-laws size count (R .count-low) .lined .once q)
 
   blank-shelf : Shelf K (blank E size count nodes pile) (λ c. []) (0 ∷ others)
   unfolding blank
@@ -93,10 +94,10 @@ module _ (E : Edition) (size count : ℕ) (nodes pile : List ℕ) (size-fits : s
     inside = λ d q. omega arith;
   }
 
-  fresh-sound : Sound E (fresh E size count nodes pile) (setup size count)
+  fresh-sound : Sound E (fresh E size count nodes pile) (setup by-class size count)
   unfolding fresh setup popPile insert insertAt
-  fresh-sound = sound-from E (fresh E size count nodes pile) size (setup size count) size count refl refl
-      (R .count-low) (R .count-high) size-fits (setup-well size count (R .count-low))
+  fresh-sound = sound-from E (fresh E size count nodes pile) size (setup by-class size count) size count refl refl
+      (R .count-low) (R .count-high) size-fits (setup-well by-class class-laws size count (R .count-low))
       (placed K (popPile (blank E size count nodes pile)) [] [] (λ c. []) others 0 size 0 (E .none) (E .none) fresh-gap
       (omega (arith, down-most size size-fits)) refl refl refl)
       (omega arith)
@@ -104,13 +105,13 @@ module _ (E : Edition) (size count : ℕ) (nodes pile : List ℕ) (size-fits : s
 -- ---- the calls
 module _ (E : Edition) where
   pub setup-sound : (size count : ℕ) (nodes pile : List ℕ) → size < 2 ^ 32 → setupWords E size count nodes pile .0 ≡ done
-      → Sound E (setupWords E size count nodes pile .1) (setup size count)
+      → Sound E (setupWords E size count nodes pile .1) (setup by-class size count)
   setup-sound size count nodes pile small e =
       let room = setup-done E size count nodes pile .0 e in
       rw (setup-opens E size count nodes pile room) (fresh-sound E size count nodes pile small room)
 
   pub reset-sound : (w : Words) → w .size < 2 ^ 32 → Room E (w .count) (length (w .nodes)) (length (w .pile))
-      → (answerWords E Reset w .0 ≡ done) × Sound E (answerWords E Reset w .1) (setup (w .size) (w .count))
+      → (answerWords E Reset w .0 ≡ done) × Sound E (answerWords E Reset w .1) (setup by-class (w .size) (w .count))
   unfolding answerWords
   reset-sound w small R =
       let opened = room-opens E 6 (w .count) (length (w .nodes)) (length (w .pile)) R in

@@ -12,8 +12,8 @@ use Rattle.basics.specs.Sum.{one, is, tally}
 use Rattle.basics.proofs.Sums.{tally-append}
 use Rattle.basics.proofs.Counts.{In, is-own, one-below}
 use Rattle.small_float.specs.Class.{down}
-use Rattle.ledger.specs.Ledger.{Region, live, free, len, rec, without, gap, owed, past, unlist}
-use Rattle.ledger.specs.WellFormed.{has, stands}
+use Rattle.ledger.specs.Ledger.{Region, live, free, len, rec, without, gap, owed, past, unlist, stands, by-class}
+use Rattle.ledger.specs.WellFormed.{has}
 use Rattle.ledger.proofs.KeptStacks.{stands-own}
 use Rattle.tables.specs.Layout.{pick, dataOffset, dataSize, neighborPrev, neighborNext, used, word}
 use Rattle.tables.specs.Words.{Words, Edition, bounds}
@@ -68,7 +68,7 @@ module _ (E : Edition) (w : Words) (r n : ℕ) where
     pub start-is : pick (opens before) (word (w .nodes) dataOffset p) (word (w .nodes) dataOffset r) ≡ tally len (reverse (past before))
     pub link-is : pick (opens before) (word (w .nodes) neighborPrev p) p ≡ last (E .none) (recs (reverse (past before)))
     pub gap-is : Gap (bounds E w) (dropIf (bounds E w) (opens before) p w) (reverse (past before)) after
-        (unlist before stacks) (owed before ++ spare) r (gap before + n)
+        (unlist by-class before stacks) (owed before ++ spare) r (gap before + n)
 
   -- what the words say of the nearest region before
   module _ (x : Region) (before after : List Region) (stacks : ℕ → List ℕ) (spare : List ℕ)
@@ -132,7 +132,7 @@ module _ (E : Edition) (w : Words) (r n : ℕ) where
     pub length-is : pick (opens after) (word (w .nodes) dataSize x) 0 ≡ gap after
     pub link-is : pick (opens after) (word (w .nodes) neighborNext x) x ≡ first (recs (past after)) (E .none)
     pub gap-is : Gap (bounds E w) (dropIf (bounds E w) (opens after) x v) xs (past after)
-        (unlist after stacks) (owed after ++ spare) r (s + gap after)
+        (unlist by-class after stacks) (owed after ++ spare) r (s + gap after)
 
   pub side-after : (v : Words) (xs after : List Region) (o : ℕ) (stacks : ℕ → List ℕ) (spare : List ℕ) (s : ℕ)
       → Gap (bounds E w) v xs after stacks spare r s

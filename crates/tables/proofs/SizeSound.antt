@@ -8,12 +8,13 @@ use borrow.Author.Tests.{lt-ltb}
 use Rattle.basics.specs.Sum.{one, tally}
 use Rattle.basics.proofs.Decided.{below, beyond, below?}
 use Rattle.basics.proofs.Counts.{is-own, one-below}
-use Rattle.ledger.specs.Ledger.{Ledger, Region, live, free, len, length-is, refused, sizeOf}
+use Rattle.ledger.specs.Ledger.{Ledger, Region, live, free, len, length-is, refused, sizeOf, by-class, Stacks}
 use Rattle.ledger.specs.WellFormed.{has}
 use Rattle.ledger.specs.Claims.{Live}
 use Rattle.ledger.proofs.Places.{Between, sum-at, between-at}
 use Rattle.ledger.proofs.Find.{Found, missing, at, found?}
 use Rattle.ledger.proofs.Cases.{LiveCase, is-live, not-live, live-case}
+use Rattle.ledger.proofs.ByClass.{class-laws}
 use Rattle.tables.specs.Layout.{pick, dataSize, used, word}
 use Rattle.tables.specs.Words.{Words, Edition}
 use Rattle.tables.specs.HandBack.{isLive}
@@ -22,7 +23,7 @@ use Rattle.tables.specs.Sound.{Sound}
 use Rattle.tables.proofs.Lines.{reads-at}
 use Rattle.tables.proofs.SoundOf.{passes}
 
-module _ (E : Edition) (w : Words) (l : Ledger) (S : Sound E w l) (r : ℕ) where
+module _ (E : Edition) (w : Words) (l : Ledger Stacks) (S : Sound E w l) (r : ℕ) where
   -- ---- a record that is not live: it is spare, or free, or no record
   unmarked : word (w .nodes) used r ≡ 0 → isLive (w .nodes) (w .count) r ≡ false
   unfolding isLive
@@ -49,8 +50,8 @@ module _ (E : Edition) (w : Words) (l : Ledger) (S : Sound E w l) (r : ℕ) wher
   pub size-sound : (sizeWords E w r .0 ≡ sizeOf r l) × Sound E (sizeWords E w r .1) l
   unfolding sizeWords
   size-sound = rw (passes E w l S (pick (isLive (w .nodes) (w .count) r) (length-is (word (w .nodes) dataSize r)) (refused 5), w))
-      (go (live-case (S .well) r), S)
+      (go (live-case by-class (S .well) r), S)
     where
-      go : LiveCase r l → pick (isLive (w .nodes) (w .count) r) (length-is (word (w .nodes) dataSize r)) (refused 5) ≡ sizeOf r l
+      go : LiveCase by-class r l → pick (isLive (w .nodes) (w .count) r) (length-is (word (w .nodes) dataSize r)) (refused 5) ≡ sizeOf r l
       go (is-live n before after place e q) = rw (known-live place, q, reads-at (w .nodes) place (S .reads) .1 .1)
       go (not-live h e q) = rw (known-idle h, q)

@@ -9,11 +9,11 @@ use Rattle.basics.proofs.Sums.{tally-le, held-first}
 use Rattle.basics.proofs.Counts.{In}
 use Rattle.small_float.specs.Class.{down, classesInUse}
 use Rattle.small_float.proofs.Rounding.{down-most}
-use Rattle.ledger.specs.Ledger.{Ledger, len, freeLen, Answer}
-use Rattle.ledger.specs.WellFormed.{WellFormed, has, stands}
+use Rattle.ledger.specs.Ledger.{Ledger, len, freeLen, Answer, stands, by-class, Stacks}
+use Rattle.ledger.specs.WellFormed.{WellFormed, has}
 use Rattle.ledger.proofs.Places.{sum-at}
 use Rattle.ledger.proofs.KeptStacks.{stands-le}
-use Rattle.ledger.proofs.Cases.{free-of}
+use Rattle.ledger.proofs.ClassCases.{free-of}
 use Rattle.tables.specs.Layout.{dataSize, word}
 use Rattle.tables.specs.Words.{Words, Edition, bounds, withTotal}
 use Rattle.tables.specs.Gate.{gateOf, gated}
@@ -24,7 +24,7 @@ use Rattle.tables.proofs.Lines.{reads-at}
 use Rattle.tables.proofs.Shelf.{Shelf}
 use Rattle.tables.proofs.Place.{Standing}
 
-module _ (E : Edition) (w : Words) (l : Ledger) (S : Sound E w l) where
+module _ (E : Edition) (w : Words) (l : Ledger Stacks) (S : Sound E w l) where
   pub room-of : Room E (w .count) (length (w .nodes)) (length (w .pile))
   room-of = record { count-low = S .count-low; count-high = S .count-high; nodes-room = S .nodes-room; pile-room = S .pile-room }
 
@@ -37,25 +37,25 @@ module _ (E : Edition) (w : Words) (l : Ledger) (S : Sound E w l) where
   count-none = omega (arith, S .count-high, E .small)
 
   -- a stack holds free regions of the line alone
-  pub stacks-inside : (c q : ℕ) → tally (is q) (l .stacks c) ≤ tally (has q) (l .line)
-  stacks-inside c q = omega (arith, S .well .stacked .exactly c q, tally-le (stands c q) (has q) (stands-le c q) (l .line))
+  pub stacks-inside : (c q : ℕ) → tally (is q) (l .index c) ≤ tally (has q) (l .line)
+  stacks-inside c q = omega (arith, S .well .kept .exactly c q, tally-le (stands c q) (has q) (stands-le c q) (l .line))
 
   -- a record in the stack of class c: its words say so, and the class is one of those in use
-  class-of : (c q : ℕ) → In q (l .stacks c) → (down (word (w .nodes) dataSize q) ≡ c) × (c < classesInUse)
+  class-of : (c q : ℕ) → In q (l .index c) → (down (word (w .nodes) dataSize q) ≡ c) × (c < classesInUse)
   class-of c q h =
       let f = free-of (S .well) c q h in
       let length-is = reads-at (w .nodes) (f .place) (S .reads) .1 .1 in
       let in-store : f .n ≤ w .size = omega (arith, sum-at (f .place) len, S .well .lined .cover) in
       (ap down length-is ∙ f .class-is, omega (arith, f .class-is, down-most (f .n) (omega (arith, S .size-fits))))
 
-  pub high-empty : (c : ℕ) → classesInUse ≤ c → l .stacks c ≡ []
-  high-empty c h = go (l .stacks c) refl
+  pub high-empty : (c : ℕ) → classesInUse ≤ c → l .index c ≡ []
+  high-empty c h = go (l .index c) refl
     where
-      go : (xs : List ℕ) → l .stacks c ≡ xs → l .stacks c ≡ []
+      go : (xs : List ℕ) → l .index c ≡ xs → l .index c ≡ []
       go [] e = e
       go (q ∷ xs) e = absurd (omega (arith, class-of c q (rw e (held-first q xs)) .1))
 
-  pub shelf-of : Shelf (bounds E w) w (l .stacks) (l .pile)
+  pub shelf-of : Shelf (bounds E w) w (l .index) (l .pile)
   shelf-of = record {
     small = count-none;
     nodes-room = S .nodes-room;
@@ -71,13 +71,13 @@ module _ (E : Edition) (w : Words) (l : Ledger) (S : Sound E w l) where
     in-bits = record { leaves-room = S .leaves-room; leaf-bits = S .leaf-bits; top-bits = S .top-bits };
   }
 
-  pub standing : Standing (bounds E w) w (l .line) (l .stacks) (l .pile)
+  pub standing : Standing (bounds E w) w (l .line) (l .index) (l .pile)
   standing = record { shelf = shelf-of; reads = S .reads; chain = S .chain; dead = S .dead; once = S .well .lined .once }
 
 -- words of this size and count, in which a ledger in order stands, are sound with its true total
-pub sound-from : (E : Edition) (w : Words) (total : ℕ) (l : Ledger) (size count : ℕ) → w .size ≡ size → w .count ≡ count
-    → 2 ≤ count → count ≤ E .limit → size < 2 ^ 32 → WellFormed size count l
-    → Standing record { n = count; none = E .none } w (l .line) (l .stacks) (l .pile) → total ≡ tally freeLen (l .line)
+pub sound-from : (E : Edition) (w : Words) (total : ℕ) (l : Ledger Stacks) (size count : ℕ) → w .size ≡ size → w .count ≡ count
+    → 2 ≤ count → count ≤ E .limit → size < 2 ^ 32 → WellFormed by-class size count l
+    → Standing record { n = count; none = E .none } w (l .line) (l .index) (l .pile) → total ≡ tally freeLen (l .line)
     → Sound E (withTotal w total) l
 sound-from E w total l size count size-is count-is low high fits well st sum = record {
   count-low = rw count-is low;

@@ -14,12 +14,13 @@ use Rattle.basics.proofs.Sums.{tally-reverseAux}
 use Rattle.basics.proofs.Counts.{is-own, one-below}
 use Rattle.small_float.specs.Class.{down, up, classesInUse}
 use Rattle.small_float.proofs.Rounding.{down-most}
-use Rattle.ledger.specs.Ledger.{Ledger, Region, live, free, len, freeLen, Answer, granted, refused, take, cut}
+use Rattle.ledger.specs.Ledger.{Ledger, Region, live, free, len, freeLen, Answer, granted, refused, take, cut, by-class, Stacks}
 use Rattle.ledger.specs.WellFormed.{WellFormed, has}
 use Rattle.ledger.proofs.Places.{sum-at}
 use Rattle.ledger.proofs.Records.{all-records}
-use Rattle.ledger.proofs.Cases.{Serving, TakeCase, few-spares, no-region, serves, take-case}
+use Rattle.ledger.proofs.ClassCases.{Serving, TakeCase, few-spares, no-region, serves, take-case}
 use Rattle.ledger.proofs.CallsWell.{take-well}
+use Rattle.ledger.proofs.ByClass.{class-laws}
 use Rattle.tables.specs.Layout.{pick, dataOffset, word}
 use Rattle.tables.specs.Words.{Words, Edition, bounds, withTotal}
 use Rattle.tables.specs.Steps.{insert, insertAt, unlinkAt, popPile}
@@ -35,12 +36,12 @@ use Rattle.tables.proofs.SoundOf.{passes, stacks-inside, high-empty, sh
 use Rattle.tables.proofs.Search.{search-finds}
 use Rattle.tables.proofs.Grant.{whole-standing, split-standing}
 
-module _ (E : Edition) (w : Words) (l : Ledger) (S : Sound E w l) (s : ℕ) where
+module _ (E : Edition) (w : Words) (l : Ledger Stacks) (S : Sound E w l) (s : ℕ) where
   abbrev found : ℕ
   found = findClass (w .leaves) (w .top) (up s)
 
   -- ---- the class that is found
-  none-found : ((c : ℕ) → up s ≤ c → c < classesInUse → l .stacks c ≡ []) → found ≡ noClass
+  none-found : ((c : ℕ) → up s ≤ c → c < classesInUse → l .index c ≡ []) → found ≡ noClass
   none-found empty = elim (search-finds E w l S (up s)) [
     | inl n ↦ n .0
     | inr f ↦ absurd (f .0 .1 (elim (below? found classesInUse) [
@@ -49,8 +50,8 @@ module _ (E : Edition) (w : Words) (l : Ledger) (S : Sound E w l) (s : ℕ) wher
     ]))
   ]
 
-  class-found : (c r : ℕ) (under : List ℕ) → up s ≤ c → l .stacks c ≡ r ∷ under
-      → ((d : ℕ) → up s ≤ d → d < c → l .stacks d ≡ []) → found ≡ c
+  class-found : (c r : ℕ) (under : List ℕ) → up s ≤ c → l .index c ≡ r ∷ under
+      → ((d : ℕ) → up s ≤ d → d < c → l .index d ≡ []) → found ≡ c
   class-found c r under h top lower = elim (search-finds E w l S (up s)) [
     | inl n ↦ absurd (holds (n .1 c h))
     | inr f ↦ elim (below? found c) [
@@ -89,10 +90,10 @@ module _ (E : Edition) (w : Words) (l : Ledger) (S : Sound E w l) (s : ℕ) wher
     line-is : l .line ≡ xs ++ free n r ∷ t .after
     line-is = t .place .line-is ∙ reverseAux-eq (t .before) (free n r ∷ t .after)
 
-    st : Standing (bounds E w) w (xs ++ free n r ∷ t .after) (l .stacks) (l .pile)
-    st = subst (λ (line : List Region). Standing (bounds E w) w line (l .stacks) (l .pile)) line-is (standing E w l S)
+    st : Standing (bounds E w) w (xs ++ free n r ∷ t .after) (l .index) (l .pile)
+    st = subst (λ (line : List Region). Standing (bounds E w) w line (l .index) (l .pile)) line-is (standing E w l S)
 
-    inside : (d q : ℕ) → tally (is q) (l .stacks d) ≤ tally (has q) (xs ++ free n r ∷ t .after)
+    inside : (d q : ℕ) → tally (is q) (l .index d) ≤ tally (has q) (xs ++ free n r ∷ t .after)
     inside d q = omega (arith, stacks-inside E w l S d q, ap (tally (has q)) line-is)
 
     -- what the plan reads
@@ -148,18 +149,19 @@ module _ (E : Edition) (w : Words) (l : Ledger) (S : Sound E w l) (s : ℕ) wher
     )
 
     -- ---- and the words after it stand for the ledger after it
-    abbrev next : ℕ → Ledger
-    next k = cut s k (t .before) n r (t .after) l
+    abbrev next : ℕ → Ledger Stacks
+    next k = cut by-class s k (t .before) n r (t .after) l
 
-    next-well : WellFormed (w .size) (w .count) (next (n - s))
-    next-well = subst (λ (x : Answer × Ledger). WellFormed (w .size) (w .count) (x .1)) (t .outcome) (take-well (w .size) (w .count) s l (S .well))
+    next-well : WellFormed by-class (w .size) (w .count) (next (n - s))
+    next-well = subst (λ (x : Answer × Ledger Stacks). WellFormed by-class (w .size) (w .count) (x .1)) (t .outcome)
+        (take-well by-class class-laws (w .size) (w .count) s l (S .well))
 
     whole-sound : n - s ≡ 0 → Sound E (withTotal (granting (bounds E w) w s (down n) r) (w .total - s)) (next 0)
     unfolding cut
     whole-sound e = sound-from E (granting (bounds E w) w s (down n) r) (w .total - s) (next 0) (w .size) (w .count)
         (unfold granting unlinkAt in refl) (unfold granting unlinkAt in refl) (S .count-low) (S .count-high) (S .size-fits) (rw e at next-well)
         (rw (reverseAux-eq (t .before) (live s r ∷ t .after))
-        (whole-standing (bounds E w) w xs (t .after) n r s (l .stacks) (l .pile) (t .under) st (t .on-top) inside (omega (arith, t .long-enough))))
+        (whole-standing (bounds E w) w xs (t .after) n r s (l .index) (l .pile) (t .under) st (t .on-top) inside (omega (arith, t .long-enough))))
         (omega (arith, S .sum, sum-at (t .place) freeLen, tally-reverseAux freeLen (t .before) (live s r ∷ t .after), t .long-enough))
 
     split-sound : (k : ℕ) → n - s ≡ suc k
@@ -169,14 +171,14 @@ module _ (E : Edition) (w : Words) (l : Ledger) (S : Sound E w l) (s : ℕ) wher
         (unfold splitting insert insertAt popPile granting unlinkAt in refl) (unfold splitting insert insertAt popPile granting unlinkAt in refl)
         (S .count-low) (S .count-high) (S .size-fits) (rw e at next-well)
         (rw (reverseAux-eq (t .before) (live s r ∷ free (suc k) m ∷ t .after), ← (append-snoc xs (live s r) (free (suc k) m ∷ t .after)))
-        (rw e at (split-standing (bounds E w) w xs (t .after) n r s (l .stacks) (l .pile) (t .under) st (t .on-top) inside m rest pile-is
+        (rw e at (split-standing (bounds E w) w xs (t .after) n r s (l .index) (l .pile) (t .under) st (t .on-top) inside m rest pile-is
         (omega (arith, t .two-spare, length-drop 1 (l .pile))) (t .long-enough) o (sym o-is) low)))
         (omega (arith, S .sum, sum-at (t .place) freeLen, tally-reverseAux freeLen (t .before) (live s r ∷ free (suc k) m ∷ t .after))))
       where
         low : down (n - s) < 256
         low = omega (arith, down-most (n - s) (omega (arith, in-store, S .size-fits)))
 
-    served : (doTake E w s (planTake w s) .0 ≡ take s l .0) × Sound E (doTake E w s (planTake w s) .1) (take s l .1)
+    served : (doTake E w s (planTake w s) .0 ≡ take by-class s l .0) × Sound E (doTake E w s (planTake w s) .1) (take by-class s l .1)
     unfolding doTake
     served = rw (plan-is, t .outcome) (go (n - s) refl (same? n s))
       where
@@ -188,15 +190,15 @@ module _ (E : Edition) (w : Words) (l : Ledger) (S : Sound E w l) (s : ℕ) wher
         go (suc k) e (same p q) = absurd (omega arith)
         go (suc k) e (differ p q) = rw (q, e) (refl, rw e at (split-sound k e))
 
-  pub take-sound : (takeWords E w s .0 ≡ take s l .0) × Sound E (takeWords E w s .1) (take s l .1)
+  pub take-sound : (takeWords E w s .0 ≡ take by-class s l .0) × Sound E (takeWords E w s .1) (take by-class s l .1)
   unfolding takeWords
   take-sound = rw (passes E w l S (doTake E w s (planTake w s))) (go (take-case (S .well) s))
     where
-      refusal : (k : ℕ) → planTake w s ≡ stop k → take s l ≡ (refused k, l)
-          → (doTake E w s (planTake w s) .0 ≡ take s l .0) × Sound E (doTake E w s (planTake w s) .1) (take s l .1)
+      refusal : (k : ℕ) → planTake w s ≡ stop k → take by-class s l ≡ (refused k, l)
+          → (doTake E w s (planTake w s) .0 ≡ take by-class s l .0) × Sound E (doTake E w s (planTake w s) .1) (take by-class s l .1)
       refusal k p e = unfold doTake in rw (p, e) (refl, S)
 
-      go : TakeCase s l → (doTake E w s (planTake w s) .0 ≡ take s l .0) × Sound E (doTake E w s (planTake w s) .1) (take s l .1)
+      go : TakeCase s l → (doTake E w s (planTake w s) .0 ≡ take by-class s l .0) × Sound E (doTake E w s (planTake w s) .1) (take by-class s l .1)
       go (few-spares h e) = refusal 3 (unfold planTake in rw (eq-eqb (w .off) 0 (omega (arith, S .spares)))) e
       go (no-region h empty e) =
           refusal 4 (unfold planTake planClass in rw (ne-eqb (w .off) 0 (omega (arith, S .spares)), none-found empty)) e

@@ -6,7 +6,7 @@ use mathlib.Core.List.{List, []}
 use Prim.Native.Nat.{ℕ, zero, suc, _+_, _*_, _^_, _≤_, _<_}
 use lib.ListN.{length, getD}
 use Rattle.basics.specs.Extreme.{Greatest, Least}
-use Rattle.ledger.specs.Ledger.{Ledger, granted, done, refused, setup}
+use Rattle.ledger.specs.Ledger.{Ledger, granted, done, refused, setup, by-class, Stacks}
 use Rattle.ledger.specs.Calls.{Call, Take, FullReport, Reset, answer, end, answers}
 use Rattle.ledger.specs.Stretch.{Stretch}
 use Rattle.tables.specs.Layout.{binNext, word, nodesNeeded, pileNeeded}
@@ -36,8 +36,8 @@ TooShort E count nodes pile =
     ((2 ≤ count) × (count ≤ E .limit)) × ((nodes < nodesNeeded count) ⊎ (pile < pileNeeded count))
 
 -- class c holds something
-abbrev pub Holds : Ledger → ℕ → Type 0
-Holds l c = ¬ (l .stacks c ≡ [])
+abbrev pub Holds : Ledger Stacks → ℕ → Type 0
+Holds l c = ¬ (l .index c ≡ [])
 
 pub record Claims (E : Edition) : Type 0 where
   -- ---- setup: refused as 1 exactly for a bad count, else as 2 exactly for a short table; refused, it gives a head of zeros and leaves the
@@ -50,7 +50,7 @@ pub record Claims (E : Edition) : Type 0 where
   pub setup-refused : (size count : ℕ) (nodes pile : List ℕ) (k : ℕ) → setupWords E size count nodes pile .0 ≡ refused k
       → setupWords E size count nodes pile .1 ≡ zeros nodes pile
   pub setup-sound : (size count : ℕ) (nodes pile : List ℕ) → size < 2 ^ 32 → setupWords E size count nodes pile .0 ≡ done
-      → Sound E (setupWords E size count nodes pile .1) (setup size count)
+      → Sound E (setupWords E size count nodes pile .1) (setup by-class size count)
   -- which words setup and reset write
   pub setup-leaves : (size count : ℕ) (nodes pile : List ℕ) (i : ℕ) → LeftAlone count i
       → getD (setupWords E size count nodes pile .1 .nodes) i 0 ≡ getD nodes i 0
@@ -59,17 +59,18 @@ pub record Claims (E : Edition) : Type 0 where
   pub reset-leaves : (w : Words) (i : ℕ) → LeftAlone (w .count) i → getD (answerWords E Reset w .1 .nodes) i 0 ≡ getD (w .nodes) i 0
   -- "Reset needs only a good count and lengths, whatever the words held."
   pub reset-sound : (w : Words) → w .size < 2 ^ 32 → Room E (w .count) (length (w .nodes)) (length (w .pile))
-      → (answerWords E Reset w .0 ≡ done) × Sound E (answerWords E Reset w .1) (setup (w .size) (w .count))
+      → (answerWords E Reset w .0 ≡ done) × Sound E (answerWords E Reset w .1) (setup by-class (w .size) (w .count))
   -- ---- every other call: 6 for the head's count, then 2 for the lengths, before anything else; behind an open gate never 2
   pub call-6 : (c : Call) (w : Words) → BadCount E (w .count) → answerWords E c w ≡ (refused 6, w)
   pub call-2 : (c : Call) (w : Words) → TooShort E (w .count) (length (w .nodes)) (length (w .pile)) → answerWords E c w ≡ (refused 2, w)
   pub not-2 : (c : Call) (w : Words) → Room E (w .count) (length (w .nodes)) (length (w .pile)) → ¬ (answerWords E c w .0 ≡ refused 2)
   -- ---- sound tables: "Every call takes sound to sound and never gives 6 there", and answers as the ledger
-  pub call-sound : (w : Words) (l : Ledger) → Sound E w l → (c : Call)
-      → (answerWords E c w .0 ≡ answer (w .size) (w .count) c l .0) × Sound E (answerWords E c w .1) (answer (w .size) (w .count) c l .1)
-  pub never-6 : (w : Words) (l : Ledger) → Sound E w l → (c : Call) → ¬ (answerWords E c w .0 ≡ refused 6)
-  pub one-ledger : (w : Words) (l m : Ledger) → Sound E w l → Sound E w m → l ≡ m
-  pub alike : (w v : Words) (l : Ledger) → Sound E w l → Sound E v l → (cs : List Call) → answersWords E cs w ≡ answersWords E cs v
+  pub call-sound : (w : Words) (l : Ledger Stacks) → Sound E w l → (c : Call)
+      → (answerWords E c w .0 ≡ answer by-class (w .size) (w .count) c l .0)
+      × Sound E (answerWords E c w .1) (answer by-class (w .size) (w .count) c l .1)
+  pub never-6 : (w : Words) (l : Ledger Stacks) → Sound E w l → (c : Call) → ¬ (answerWords E c w .0 ≡ refused 6)
+  pub one-ledger : (w : Words) (l m : Ledger Stacks) → Sound E w l → Sound E w m → l ≡ m
+  pub alike : (w v : Words) (l : Ledger Stacks) → Sound E w l → Sound E v l → (cs : List Call) → answersWords E cs w ≡ answersWords E cs v
   -- ---- any words at all: "A refusal changes no word .. Even from spoiled tables no span outside the store is granted."
   pub refused-kept : (c : Call) (w : Words) (k : ℕ) → answerWords E c w .0 ≡ refused k → answerWords E c w .1 ≡ w
   pub grant-inside : (w : Words) (s o r : ℕ) → answerWords E (Take s) w .0 ≡ granted o r → o + s ≤ w .size
@@ -81,16 +82,16 @@ pub record Claims (E : Edition) : Type 0 where
   pub not-read : (c : Call) (w v : Words) → Agree (w .count) w v → Room E (w .count) (length (w .nodes)) (length (w .pile))
       → (answerWords E c w .0 ≡ answerWords E c v .0) × Agree (w .count) (answerWords E c w .1) (answerWords E c v .1)
   -- ---- the bits: the lowest class that holds something at or above c, and the highest of all
-  pub search-finds : (w : Words) (l : Ledger) → Sound E w l → (c : ℕ)
-      → ((findClass (w .leaves) (w .top) c ≡ noClass) × ((d : ℕ) → c ≤ d → l .stacks d ≡ []))
+  pub search-finds : (w : Words) (l : Ledger Stacks) → Sound E w l → (c : ℕ)
+      → ((findClass (w .leaves) (w .top) c ≡ noClass) × ((d : ℕ) → c ≤ d → l .index d ≡ []))
       ⊎ Least (λ d. (c ≤ d) × Holds l d) (findClass (w .leaves) (w .top) c)
-  pub highest-found : (w : Words) (l : Ledger) → Sound E w l
-      → ((w .top ≡ 0) × ((d : ℕ) → l .stacks d ≡ []))
+  pub highest-found : (w : Words) (l : Ledger Stacks) → Sound E w l
+      → ((w .top ≡ 0) × ((d : ℕ) → l .index d ≡ []))
       ⊎ Greatest (λ d. Holds l d) (8 * highBit (w .top) + highBit (getD (w .leaves) (highBit (w .top)) 0))
   -- ---- runs. Demand 2: "from an accepted setup .., under any calls .., answers and reports .. are proved equal to document 01's plain ledger"
   pub demand-2 : (size count : ℕ) (nodes pile : List ℕ) → size < 2 ^ 32 → setupWords E size count nodes pile .0 ≡ done → (cs : List Call)
-      → (answersWords E cs (setupWords E size count nodes pile .1) ≡ answers size count cs (setup size count))
-      × Sound E (endWords E cs (setupWords E size count nodes pile .1)) (end size count cs (setup size count))
+      → (answersWords E cs (setupWords E size count nodes pile .1) ≡ answers by-class size count cs (setup by-class size count))
+      × Sound E (endWords E cs (setupWords E size count nodes pile .1)) (end by-class size count cs (setup by-class size count))
   -- Demand 3: after the stretch "every later call, handle numbers and reports included, answers as though the stretch had never been"
   pub demand-3 : (size count : ℕ) (nodes pile : List ℕ) → size < 2 ^ 32 → setupWords E size count nodes pile .0 ≡ done → (before : List Call)
       → (cs : List Call) → Stretch [] (logWords E cs (endWords E before (setupWords E size count nodes pile .1)))

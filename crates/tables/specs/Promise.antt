@@ -2,7 +2,7 @@
 use mathlib.Core.Path.{_≡_}
 use mathlib.Core.List.{List}
 use Prim.Native.Nat.{ℕ, _+_, _^_, _≤_, _<_}
-use Rattle.ledger.specs.Ledger.{Ledger, Answer, granted, done, refused, setup}
+use Rattle.ledger.specs.Ledger.{Ledger, Answer, granted, done, refused, setup, by-class, Stacks}
 use Rattle.ledger.specs.Calls.{Call, Take, answer}
 use Rattle.tables.specs.Words.{Words, Edition}
 use Rattle.tables.specs.Setup.{zeros, setupWords}
@@ -14,7 +14,8 @@ pub record Promise (E : Edition) (c : Call) (w v : Words) (a : Answer) : Type 0 
   -- answer and every word are the model's, for all words, sound or not
   pub exact : (a, v) ≡ answerWords E c w
   -- on tables that stand for a ledger, the answer is the ledger's and the tables stand for the ledger's next
-  pub ledger : (l : Ledger) → Sound E w l → (a ≡ answer (w .size) (w .count) c l .0) × Sound E v (answer (w .size) (w .count) c l .1)
+  pub ledger : (l : Ledger Stacks) → Sound E w l
+      → (a ≡ answer by-class (w .size) (w .count) c l .0) × Sound E v (answer by-class (w .size) (w .count) c l .1)
   -- a refusal leaves every word as it came
   pub kept : (k : ℕ) → a ≡ refused k → v ≡ w
   -- a grant lies inside the store, on any tables
@@ -24,6 +25,6 @@ pub record Promise (E : Edition) (c : Call) (w v : Words) (a : Answer) : Type 0 
 pub record SetupPromise (E : Edition) (size count : ℕ) (nodes pile : List ℕ) (v : Words) (a : Answer) : Type 0 where
   pub exact : (a, v) ≡ setupWords E size count nodes pile
   -- accepted, whatever the tables held, they stand for the ledger's setup
-  pub ledger : size < 2 ^ 32 → a ≡ done → Sound E v (setup size count)
+  pub ledger : size < 2 ^ 32 → a ≡ done → Sound E v (setup by-class size count)
   -- refused, the tables are as they came and the head is one of zeros
   pub kept : (k : ℕ) → a ≡ refused k → v ≡ zeros nodes pile
