@@ -1,5 +1,6 @@
 -- Lists: the walk of a list and the count of all lists, step by step. Columns: the two columns of the full report.
--- Walk: what a question answers behind an open gate.
+-- Walk: what a question answers behind an open gate. Figures: those of a refused full report.
 pub mod Lists
 pub mod Columns
 pub mod Walk
+pub mod Figures

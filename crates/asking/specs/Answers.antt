@@ -9,6 +9,7 @@ use Rattle.tables.specs.Words.{Words}
 use Rattle.tables.specs.Questions.{Walked, steps, lost}
 use Rattle.tables.specs.Calls.{edition32, answerWords}
 use Rattle.tables.specs.Promise.{Promise}
+use Rattle.answers.specs.declared.Refusal.{Refusal}
 use Rattle.answers.specs.Refusals.{numberOf}
 use Rattle.asking.specs.declared.SizeAnswer.{SizeAnswer}
 use Rattle.asking.specs.declared.SizeAnswer.the-variants as size
@@ -54,6 +55,12 @@ ZeroIfRefused (full.Refused why) sizes counts = (sizes ≡ replicate 256 0) × (
 
 abbrev pub FiguresOfZero : FullAnswer → Type 0
 FiguresOfZero a = ZeroIfRefused (a .outcome) (a .sizes) (a .counts)
+
+-- what that says of the rows; proofs/Figures.antt makes it
+pub record FigureFacts : Type 0 where
+  -- "Every refusal returns its number, figures of 0": each of the 256 rows has value 0 and count 0
+  pub refused-rows : (a : FullAnswer) (why : Refusal) → a .outcome ≡ full.Refused why → FiguresOfZero a
+      → columns (a .sizes) (a .counts) ≡ replicate 256 (0, 0)
 
 -- ---- inside: the walk of a list
 abbrev pub walkedOf : Walk → Walked

@@ -4,6 +4,7 @@
 use crate::parts;
 use crate::state;
 use crate::state::State;
+use libc::STDIN_FILENO;
 use replay::rows::Reader;
 use replay::tally::Tally;
 use replay::tally::Verdict;
@@ -16,7 +17,7 @@ pub struct Replay {
 }
 
 impl Replay {
-    pub fn new() -> Replay {
+    fn new() -> Replay {
         Replay {
             reader: Reader::new(),
             tally: Tally::new(),
@@ -154,7 +155,7 @@ fn feed(
 }
 
 // All of the bytes, in order.
-pub fn feed_all(
+fn feed_all(
     start: Replay,
     bytes: &[u8],
     heads: &mut [u32; 256],
@@ -168,6 +169,34 @@ pub fn feed_all(
     while i < n {
         replay = feed(replay, bytes[i], heads, leaves, nodes, pile);
         i += 1;
+    }
+    replay
+}
+
+// The list to its end. A proved loop has to end, and nothing says that the input does: so turns are counted down, from a number that no
+// run uses up.
+pub fn replay_input() -> Replay {
+    let mut heads = [0u32; 256];
+    let mut leaves = [0u8; 32];
+    let mut nodes = [0u32; 96];
+    let mut pile = [0u32; 16];
+    let mut replay = Replay::new();
+    let mut buffer = io::large_buffer();
+    let mut turns = u64::MAX;
+    while turns > 0 {
+        let n = io::read_full(STDIN_FILENO, &mut buffer);
+        if n == 0 {
+            return replay;
+        }
+        replay = feed_all(
+            replay,
+            &buffer[..n],
+            &mut heads,
+            &mut leaves,
+            &mut nodes,
+            &mut pile,
+        );
+        turns -= 1;
     }
     replay
 }

@@ -1,11 +1,18 @@
 // The parts of a head and its tables. Each can have a word put in it, for good or for one audit.
+ghost use mathlib.Core.Path.{_≡_};
+ghost use lib.Dec.{ltb, leb};
+ghost use lib.ListN.{length, set};
+ghost use Rattle.tables.specs.Layout.{pick};
+ghost use Rattle.audit_replay.specs.Audited.{auditNumber, OnlyIf, placedIf, totalPut, statePut};
 use crate::state;
 use crate::state::State;
 use bins::totals::Totals;
 use replay::tally::Verdict;
 
 // A word that has no place differs from every list.
-fn placed(has_place: bool) -> Verdict {
+fn placed(has_place: bool) -> Verdict
+    ensures { λ r. ⌜ r ≡ placedIf «has_place» ⌝ }
+{
     if has_place {
         return Verdict::Agrees;
     }
@@ -13,30 +20,42 @@ fn placed(has_place: bool) -> Verdict {
 }
 
 // The scalars in the order of their declaration; another index changes none.
-fn with_total(t: Totals, i: u32, v: u32) -> Totals {
-    match i {
-        0 => Totals {
+fn with_total(t: Totals, i: u32, v: u32) -> Totals
+    ensures { λ r. ⌜ r ≡ totalPut t i v ⌝ }
+{
+    if i == 0 {
+        return Totals {
             size: v,
             max_allocs: t.max_allocs,
             free_storage: t.free_storage,
             free_offset: t.free_offset,
             used_bins_top: t.used_bins_top,
-        },
-        1 => Totals {
+        };
+    }
+    if i == 1 {
+        return Totals {
             size: t.size,
             max_allocs: v,
             free_storage: t.free_storage,
             free_offset: t.free_offset,
             used_bins_top: t.used_bins_top,
-        },
-        2 => t.with_free_storage(v),
-        3 => t.with_free_offset(v),
-        4 => t.with_used_bins_top(v),
-        _ => t,
+        };
     }
+    if i == 2 {
+        return t.with_free_storage(v);
+    }
+    if i == 3 {
+        return t.with_free_offset(v);
+    }
+    if i == 4 {
+        return t.with_used_bins_top(v);
+    }
+    t
 }
 
-pub fn put_total(state: State, i: u32, v: u32) -> State {
+pub fn put_total(state: State, i: u32, v: u32) -> State
+    ensures { λ r. ⌜ r ≡ statePut state i v ⌝ }
+{
     let before = state.totals;
     let totals = with_total(before, i, v);
     State {
@@ -47,11 +66,15 @@ pub fn put_total(state: State, i: u32, v: u32) -> State {
     }
 }
 
-pub fn total_placed(i: u32) -> Verdict {
+pub fn total_placed(i: u32) -> Verdict
+    ensures { λ r. ⌜ r ≡ placedIf (ltb i 5) ⌝ }
+{
     placed(i < 5)
 }
 
-pub fn put_head(heads: &mut [u32; 256], i: u32, v: u32) -> Verdict {
+pub fn put_head(heads: &mut [u32; 256], i: u32, v: u32) -> Verdict
+    ensures { λ r. ⌜ (r ≡ placedIf (ltb i 256)) × (now (heads .exit) ≡ pick (ltb i 256) (set (now (heads .entry)) i v) (now (heads .entry))) ⌝ }
+{
     let at = i as usize;
     if 256 <= at {
         return Verdict::Differs;
@@ -60,7 +83,10 @@ pub fn put_head(heads: &mut [u32; 256], i: u32, v: u32) -> Verdict {
     Verdict::Agrees
 }
 
-pub fn put_leaf(leaves: &mut [u8; 32], i: u32, v: u32) -> Verdict {
+pub fn put_leaf(leaves: &mut [u8; 32], i: u32, v: u32) -> Verdict
+    ensures { λ r. ⌜ (r ≡ pick (ltb i 32) (placedIf (leb v 255)) Verdict.Differs)
+        × (now (leaves .exit) ≡ pick (ltb i 32) (pick (leb v 255) (set (now (leaves .entry)) i v) (now (leaves .entry))) (now (leaves .entry))) ⌝ }
+{
     let at = i as usize;
     if 32 <= at {
         return Verdict::Differs;
@@ -72,7 +98,9 @@ pub fn put_leaf(leaves: &mut [u8; 32], i: u32, v: u32) -> Verdict {
     Verdict::Agrees
 }
 
-pub fn put_node(nodes: &mut [u32], i: u32, v: u32) -> Verdict {
+pub fn put_node(nodes: &mut [u32], i: u32, v: u32) -> Verdict
+    ensures { λ r. ⌜ (r ≡ placedIf (ltb i (length (now (nodes .entry))))) × (now (nodes .exit) ≡ set (now (nodes .entry)) i v) ⌝ }
+{
     let at = i as usize;
     if nodes.len() <= at {
         return Verdict::Differs;
@@ -81,7 +109,9 @@ pub fn put_node(nodes: &mut [u32], i: u32, v: u32) -> Verdict {
     Verdict::Agrees
 }
 
-pub fn put_spare(pile: &mut [u32], i: u32, v: u32) -> Verdict {
+pub fn put_spare(pile: &mut [u32], i: u32, v: u32) -> Verdict
+    ensures { λ r. ⌜ (r ≡ placedIf (ltb i (length (now (pile .entry))))) × (now (pile .exit) ≡ set (now (pile .entry)) i v) ⌝ }
+{
     let at = i as usize;
     if pile.len() <= at {
         return Verdict::Differs;
@@ -99,7 +129,10 @@ pub fn spoil_total(
     leaves: &[u8; 32],
     nodes: &[u32],
     pile: &[u32],
-) -> Verdict {
+) -> Verdict
+    ensures { λ r. ⌜ OnlyIf r expected (auditNumber (statePut state i v) (now (heads .entry)) (now (leaves .entry))
+        (now (nodes .entry)) (now (pile .entry))) ⌝ }
+{
     if 5 <= i {
         return Verdict::Differs;
     }
@@ -116,7 +149,11 @@ pub fn spoil_head(
     leaves: &[u8; 32],
     nodes: &[u32],
     pile: &[u32],
-) -> Verdict {
+) -> Verdict
+    ensures { λ r. ⌜ (OnlyIf r expected
+        (auditNumber state (set (now (heads .entry)) i v) (now (leaves .entry)) (now (nodes .entry)) (now (pile .entry))))
+        × (now (heads .exit) ≡ now (heads .entry)) ⌝ }
+{
     let at = i as usize;
     if 256 <= at {
         return Verdict::Differs;
@@ -137,7 +174,11 @@ pub fn spoil_leaf(
     leaves: &mut [u8; 32],
     nodes: &[u32],
     pile: &[u32],
-) -> Verdict {
+) -> Verdict
+    ensures { λ r. ⌜ (OnlyIf r expected
+        (auditNumber state (now (heads .entry)) (set (now (leaves .entry)) i v) (now (nodes .entry)) (now (pile .entry))))
+        × (now (leaves .exit) ≡ now (leaves .entry)) ⌝ }
+{
     let at = i as usize;
     if 32 <= at {
         return Verdict::Differs;
@@ -161,7 +202,11 @@ pub fn spoil_node(
     leaves: &[u8; 32],
     nodes: &mut [u32],
     pile: &[u32],
-) -> Verdict {
+) -> Verdict
+    ensures { λ r. ⌜ (OnlyIf r expected
+        (auditNumber state (now (heads .entry)) (now (leaves .entry)) (set (now (nodes .entry)) i v) (now (pile .entry))))
+        × (now (nodes .exit) ≡ now (nodes .entry)) ⌝ }
+{
     let at = i as usize;
     if nodes.len() <= at {
         return Verdict::Differs;
@@ -182,7 +227,11 @@ pub fn spoil_spare(
     leaves: &[u8; 32],
     nodes: &[u32],
     pile: &mut [u32],
-) -> Verdict {
+) -> Verdict
+    ensures { λ r. ⌜ (OnlyIf r expected
+        (auditNumber state (now (heads .entry)) (now (leaves .entry)) (now (nodes .entry)) (set (now (pile .entry)) i v)))
+        × (now (pile .exit) ≡ now (pile .entry)) ⌝ }
+{
     let at = i as usize;
     if pile.len() <= at {
         return Verdict::Differs;

@@ -1,4 +1,7 @@
 // A store that is audited: its scalars, and how much of each table is lent. The arrays stand beside it, long enough for the list's stores.
+ghost use mathlib.Core.Path.{_≡_};
+ghost use Rattle.auditing.specs.Answers.{answerOf};
+ghost use Rattle.audit_replay.specs.Audited.{noStore, numberIn, numberWith, auditNumber, OnlyIf};
 use auditing::AuditAnswer;
 use bins::totals::Totals;
 use replay::tally::Verdict;
@@ -17,7 +20,9 @@ pub const BEFORE: u32 = 7;
 const NO_AUDIT: u32 = 4294967295;
 
 impl State {
-    pub fn new() -> State {
+    pub fn new() -> State
+        ensures { λ r. ⌜ r ≡ noStore ⌝ }
+    {
         State {
             totals: Totals {
                 size: 0,
@@ -34,7 +39,9 @@ impl State {
 }
 
 // 0 for yes, or the refusal's number.
-fn number(answer: AuditAnswer) -> u32 {
+fn number(answer: AuditAnswer) -> u32
+    ensures { λ r. ⌜ r ≡ numberIn (answerOf answer) ⌝ }
+{
     match answer {
         AuditAnswer::Sound => 0,
         AuditAnswer::Refused(why) => why.number(),
@@ -49,7 +56,10 @@ fn audit(
     nodes: &[u32],
     pile: &[u32],
     scratch: &mut [u32],
-) -> u32 {
+) -> u32
+    ensures { λ r. ⌜ r ≡ numberWith state (now (heads .entry)) (now (leaves .entry)) (now (nodes .entry)) (now (pile .entry))
+        (now (scratch .entry)) ⌝ }
+{
     let totals = state.totals;
     let n = state.nodes as usize;
     let p = state.pile as usize;
@@ -112,7 +122,9 @@ pub fn judge(
     leaves: &[u8; 32],
     nodes: &[u32],
     pile: &[u32],
-) -> Verdict {
+) -> Verdict
+    ensures { λ r. ⌜ OnlyIf r expected (auditNumber state (now (heads .entry)) (now (leaves .entry)) (now (nodes .entry)) (now (pile .entry))) ⌝ }
+{
     let mut scratch = [BEFORE; 16];
     let totals = state.totals;
     let found = audit(state, heads, leaves, nodes, pile, &mut scratch);

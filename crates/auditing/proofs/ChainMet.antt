@@ -2,7 +2,7 @@
 -- stands the walk ends there, with the line's counts. Assumes nothing.
 use mathlib.Core.Path.{_≡_, refl, ap, sym, _∙_, subst}
 use mathlib.Core.Logic.{_≢_}
-use mathlib.Core.Bool.{Bool, true, false}
+use mathlib.Core.Bool.{Bool, true, false, not}
 use mathlib.Core.List.{List, [], _∷_}
 use Prim.Native.Nat.{ℕ, zero, suc, _+_, _≤_, _<_}
 use native.Mathlib.Omega.{arith}
@@ -20,7 +20,7 @@ use Rattle.tables.specs.Words.{Edition}
 use Rattle.tables.specs.Linked.{first, Linked, recs, mark, Reads}
 use Rattle.auditing.specs.declared.chain.Walk.{Walk}
 use Rattle.auditing.specs.Chain.{goodUsed, goodRegion, advanced, walkFrom}
-use Rattle.auditing.proofs.Tests.{both, but-not}
+use Rattle.auditing.proofs.Tests.{both}
 
 -- 1 for a free region
 abbrev pub freeOne : Region → ℕ
@@ -44,7 +44,7 @@ used-is before this e = go (same? this 0)
   where
     go : Same this 0 → UsedIs before this
     go (same z t) = is-free z (eqb-false before 0 (not-true _ (rw t at e)))
-    go (differ d t) = is-live (eqb-true this 1 (rw t at e))
+    go (differ d t) = is-live (eqb-true this 1 (both _ true (rw t at e) .0))
 
 module _ (nodes marks : List ℕ) (count size : ℕ) where
   -- ---- one region, in the words of the record at which the walk stands
@@ -59,17 +59,17 @@ module _ (nodes marks : List ℕ) (count size : ℕ) where
   pub is-good : (w : Walk) → goodRegion nodes marks count size w ≡ true → Good w
   unfolding goodRegion
   is-good w e =
-      let t1 = both (ltb (w .here) count) _ e in
-      let t2 = both (eqb (getD marks (w .here) 0) 0) _ (t1 .1) in
-      let t3 = both (eqb (word nodes neighborPrev (w .here)) (w .prev)) _ (t2 .1) in
-      let t4 = both (eqb (word nodes dataOffset (w .here)) (w .offset)) _ (t3 .1) in
-      let t5 = but-not (ltb size (w .offset + word nodes dataSize (w .here))) _ (t4 .1) in
+      let t5 = both _ (goodUsed (w .used) (word nodes used (w .here))) e in
+      let t4 = both _ (not (ltb size (w .offset + word nodes dataSize (w .here)))) (t5 .0) in
+      let t3 = both _ (eqb (word nodes dataOffset (w .here)) (w .offset)) (t4 .0) in
+      let t2 = both _ (eqb (word nodes neighborPrev (w .here)) (w .prev)) (t3 .0) in
+      let t1 = both (ltb (w .here) count) (eqb (getD marks (w .here) 0) 0) (t2 .0) in
       record {
         low = ltb-true _ _ (t1 .0);
-        unmarked = eqb-true _ _ (t2 .0);
-        joined = eqb-true _ _ (t3 .0);
-        begins = eqb-true _ _ (t4 .0);
-        inside = ltb-false _ _ (t5 .0);
+        unmarked = eqb-true _ _ (t1 .1);
+        joined = eqb-true _ _ (t2 .1);
+        begins = eqb-true _ _ (t3 .1);
+        inside = ltb-false _ _ (not-true _ (t4 .1));
         used-good = t5 .1;
       }
 

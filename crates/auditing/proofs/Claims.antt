@@ -14,12 +14,15 @@ use Rattle.ledger.specs.Stretch.{Question, size-query, short-report, full-repor
 use Rattle.ledger.proofs.Records.{all-records}
 use Rattle.ledger.proofs.CallsWell.{setup-well, call-well}
 use Rattle.ledger.proofs.ByClass.{class-laws}
-use Rattle.tables.specs.Words.{Words, Edition}
+use Rattle.tables.specs.Words.{Words, Edition, withTables}
 use Rattle.tables.specs.Gate.{gateOf, gated}
-use Rattle.tables.specs.Setup.{setupWords}
+use Rattle.tables.specs.Setup.{Lent, setupWords}
 use Rattle.tables.specs.Calls.{answerWords, endWords}
 use Rattle.tables.specs.Sound.{Sound}
+use Rattle.tables.specs.Layout.{nodesNeeded, pileNeeded}
+use Rattle.tables.specs.Reach.{AgreeOn, Agree}
 use Rattle.tables.specs.Claims.{BadCount}
+use Rattle.tables.proofs.Agreeing.{by-tables}
 use Rattle.tables.proofs.Gate.{Gated, bad-count, too-short, open-gate, gated?, room-not-bad, room-not-short, short-not-bad}
 use Rattle.tables.proofs.SoundOf.{room-of}
 use Rattle.tables.proofs.SetupSound.{setup-sound}
@@ -29,6 +32,7 @@ use Rattle.auditing.specs.Scratch.{cleared}
 use Rattle.auditing.specs.Audit.{wordsAreSound, verdict, behindGate, gatedAudit, auditWords}
 use Rattle.auditing.specs.Claims.{OfHead, SomeLedger, AuditRoom, AuditShort, Claims}
 use Rattle.auditing.proofs.Cleared.{cleared-length, cleared-low, cleared-high, none-marked}
+use Rattle.auditing.proofs.Unread.{tests-same}
 use Rattle.auditing.proofs.YesSound.{yes-sound}
 use Rattle.auditing.proofs.SoundYes.{sound-yes}
 
@@ -199,25 +203,54 @@ module _ (E : Edition) (w : Words) (scratch : List ℕ) where
     | tested h e ↦ ap (λ (s : List ℕ). getD s i 0) (scratch-is e) ∙ cleared-high (w .count) scratch i l
   ]
 
--- ---- what stood in the scratch makes no difference
-same-answer : (E : Edition) (w : Words) (scratch other : List ℕ) → OfHead w → w .count ≤ length scratch → w .count ≤ length other
+-- ---- what stands beyond the lengths makes no difference, nor what stood in the scratch
+cleared-agree : (n : ℕ) (scratch other : List ℕ) → n ≤ length scratch → n ≤ length other → AgreeOn n (cleared n scratch) (cleared n other)
+cleared-agree n scratch other a b = record {
+  long = rw cleared-length a;
+  long-too = rw cleared-length b;
+  same = λ i l. cleared-low n scratch i a l ∙ sym (cleared-low n other i b l);
+}
+
+-- two audits with one answer, whose scratches agree
+abbrev Alike : ℕ → (x y : Answer × List ℕ) → Type 0
+Alike n x y = (x .0 ≡ y .0) × AgreeOn n (x .1) (y .1)
+
+audits-alike : (E : Edition) (w : Words) (nodes pile scratch other : List ℕ) → AgreeOn (nodesNeeded (w .count)) (w .nodes) nodes
+    → AgreeOn (pileNeeded (w .count)) (w .pile) pile → AuditRoom E w scratch → w .count ≤ length other
+    → Alike (w .count) (auditWords E w scratch) (auditWords E (withTables w nodes pile) other)
+audits-alike E w nodes pile scratch other N P r b =
+    let room : AuditRoom E (withTables w nodes pile) other = record {
+      tables-room = record {
+        count-low = r .tables-room .count-low;
+        count-high = r .tables-room .count-high;
+        nodes-room = N .long-too;
+        pile-room = P .long-too;
+      };
+      scratch-room = b;
+    } in
+    let clear = cleared-agree (w .count) scratch other (r .scratch-room) b in
+    rw (at-room E w scratch r, at-room E (withTables w nodes pile) other room)
+    (ap verdict (tests-same E w nodes pile N P (cleared (w .count) scratch) (cleared (w .count) other) clear), clear)
+
+unread : (E : Edition) (w v : Words) (scratch other : List ℕ) → Agree (w .count) w v → AuditRoom E w scratch → w .count ≤ length other
+    → Alike (w .count) (auditWords E w scratch) (auditWords E v other)
+unread E w v scratch other A r b =
+    by-tables (w .count) A (λ (u : Words). Alike (w .count) (auditWords E w scratch) (auditWords E u other))
+    (audits-alike E w (v .nodes) (v .pile) scratch other (A .nodes-is) (A .pile-is) r b)
+
+same-answer : (E : Edition) (w : Words) (scratch other : List ℕ) → w .count ≤ length scratch → w .count ≤ length other
     → auditWords E w scratch .0 ≡ auditWords E w other .0
-same-answer E w scratch other H a b = elim (one-of-three E w scratch) [
-  | inl e ↦ e ∙ sym (done-exactly E w other H .1 (room (done-exactly E w scratch H .0 e .0), done-exactly E w scratch H .0 e .1))
-  | inr (inl e) ↦ e ∙ sym (short-exactly E w other .1 (short (short-exactly E w scratch .0 e)))
-  | inr (inr e) ↦ e ∙ sym (unsound-exactly E w other H .1 (unsound (unsound-exactly E w scratch H .0 e)))
+same-answer E w scratch other a b = elim (audited? E w scratch) [
+  | by-count h e ↦ answer-is E w scratch e ∙ sym (answer-is E w other (at-bad-count E w other h))
+  | by-length h e ↦ answer-is E w scratch e ∙ sym (answer-is E w other (at-short E w other (short h)))
+  | tested h e ↦ audits-alike E w (w .nodes) (w .pile) scratch other
+      record { long = h .tables-room .nodes-room; long-too = h .tables-room .nodes-room; same = λ i l. refl }
+      record { long = h .tables-room .pile-room; long-too = h .tables-room .pile-room; same = λ i l. refl } h b .0
 ]
   where
-    room : AuditRoom E w scratch → AuditRoom E w other
-    room r = record { tables-room = r .tables-room; scratch-room = b }
-
     short : AuditShort E w scratch → AuditShort E w other
     short (inl s) = inl s
     short (inr s) = absurd (omega (arith, s .1))
-
-    unsound : BadCount E (w .count) ⊎ (AuditRoom E w scratch × ¬ SomeLedger E w) → BadCount E (w .count) ⊎ (AuditRoom E w other × ¬ SomeLedger E w)
-    unsound (inl s) = inl s
-    unsound (inr s) = inr (room (s .0), s .1)
 
 -- ---- calls
 head-of : (E : Edition) (w : Words) (l : Ledger Stacks) → Sound E w l → OfHead w
@@ -246,11 +279,11 @@ module _ (E : Edition) (scratch : List ℕ) where
       let next = after-call w (p .1 .0) (p .1 .1) (p .0 .scratch-room) c in
       answer-is E (answerWords E c w .1) scratch (sound-audited E (answerWords E c w .1) scratch (next .0 .0) (next .0 .1) (next .1))
 
-  setup-count : (size count : ℕ) (nodes pile : List ℕ) → (small : size < 2 ^ 32) → (accepted : setupWords E size count nodes pile .0 ≡ done)
-      → setupWords E size count nodes pile .1 .count ≡ count
-  setup-count size count nodes pile small accepted =
-      sym (all-records (setup-sound E size count nodes pile small accepted .well .lined))
-      ∙ all-records (setup-well by-class class-laws size count (setup-done E size count nodes pile .0 accepted .count-low) .lined)
+  setup-count : (size count : ℕ) (lent : Lent) → (small : size < 2 ^ 32) → (accepted : setupWords E size count lent .0 ≡ done)
+      → setupWords E size count lent .1 .count ≡ count
+  setup-count size count lent small accepted =
+      sym (all-records (setup-sound E size count lent small accepted .well .lined))
+      ∙ all-records (setup-well by-class class-laws size count (setup-done E size count lent .0 accepted .count-low) .lined)
 
 -- a question gives the words as they came, whatever the gate says
 kept : (g : ℕ) (w : Words) (a : Answer) → gated g w (a, w) .1 ≡ w
@@ -267,6 +300,9 @@ question-same E FullReport full-report w = kept (gateOf E w) w _
 pub claims : (E : Edition) → Claims E
 claims E = record {
   yes-exactly = done-exactly E;
+  sound-head = head-of E;
+  one-case = λ w scratch. elim (audited? E w scratch) [ by-count h e ↦ inl h | by-length h e ↦ inr (inl h) | tested h e ↦ inr (inr h) ];
+  cases-apart = λ w scratch. (short-not-count E w scratch, room-not-count E w scratch, room-long E w scratch);
   bad-count = at-bad-count E;
   too-short = at-short E;
   two-exactly = short-exactly E;
@@ -276,11 +312,12 @@ claims E = record {
   scratch-low = zero-low E;
   scratch-beyond = same-beyond E;
   any-scratch = same-answer E;
+  not-read = unread E;
   sound-yes = λ w l scratch S h. sound-audited E w scratch l S h;
   call-keeps = λ w scratch. one-call E scratch w;
-  run-keeps = λ size count nodes pile scratch small accepted h cs.
-      run-audited E scratch cs (setupWords E size count nodes pile .1) (setup by-class size count)
-      (setup-sound E size count nodes pile small accepted)
-      (omega (arith, setup-count E scratch size count nodes pile small accepted));
+  run-keeps = λ size count lent scratch small accepted h cs.
+      run-audited E scratch cs (setupWords E size count lent .1) (setup by-class size count)
+      (setup-sound E size count lent small accepted)
+      (omega (arith, setup-count E scratch size count lent small accepted));
   question-leaves = λ c q w scratch. ap (λ (v : Words). auditWords E v scratch) (question-same E c q w);
 }

@@ -1,14 +1,15 @@
--- The audit computed: yes after a setup and after some calls, no on words spoilt in one place each. Assumes nothing.
+-- The audit computed: yes after a setup and after some calls, no on words spoilt in one place each, two of which a call does not mind.
+-- Assumes nothing.
 use mathlib.Core.Path.{_≡_, refl}
-use mathlib.Core.List.{List, [], _∷_}
+use mathlib.Core.List.{List, [], _∷_, _++_}
 use Prim.Native.Nat.{ℕ}
 use lib.ListN.{replicate}
-use Rattle.ledger.specs.Ledger.{Answer, done, refused}
+use Rattle.ledger.specs.Ledger.{Answer, done, granted, refused}
 use Rattle.ledger.specs.Calls.{Take, HandBack}
 use Rattle.tables.specs.Layout.{neighborNext, used, put, putLink, word}
 use Rattle.tables.specs.Words.{Words, withNodes, withTotal}
 use Rattle.tables.specs.Steps.{insert, insertAt, insertNodes, joinNodes, unlink, unlinkAt, popPile, pushPile}
-use Rattle.tables.specs.Setup.{setupWords}
+use Rattle.tables.specs.Setup.{tablesAlone, setupWords}
 use Rattle.tables.specs.Calls.{edition32, answerWords, endWords}
 use Rattle.small_float.specs.Class.{up}
 use Rattle.auditing.specs.Audit.{auditWords}
@@ -16,7 +17,7 @@ use Rattle.auditing.specs.Audit.{auditWords}
 -- a store of 100 units and 5 records
 fresh : Words
 unfolding setupWords insert insertAt insertNodes joinNodes popPile put putLink word
-fresh = setupWords edition32 100 5 (replicate 40 7) (replicate 5 9) .1
+fresh = setupWords edition32 100 5 (tablesAlone (replicate 40 7) (replicate 5 9)) .1
 
 -- a free region of 20 units, a live one of 30, and a free one of 50
 cut-up : Words
@@ -59,3 +60,53 @@ spare-live = refl
 circular-chain : audited (withNodes cut-up (put 1 neighborNext 0 (cut-up .nodes))) ≡ (refused 6, left)
 unfolding audited cut-up left word put up lib.Count.trailingZeros
 circular-chain = refl
+
+-- ---- where the audit asks more than a call: one live region of 5 units under record 1, record 0 spare, and `link` for the record before it
+one-live : ℕ → Words
+one-live link = record {
+  size = 5;
+  count = 2;
+  total = 0;
+  off = 0;
+  top = 0;
+  leaves = replicate 32 0;
+  heads = replicate 256 4294967295;
+  nodes = replicate 8 0 ++ (0 ∷ 5 ∷ 4294967295 ∷ 4294967295 ∷ link ∷ 4294967295 ∷ 1 ∷ 0 ∷ []);
+  pile = replicate 2 0;
+}
+
+marked-absent : audited (one-live 4294967295) .0 ≡ done
+unfolding audited one-live word
+marked-absent = refl
+
+-- a call reads the link 2 as absent, and hands the region back; to the audit it is no absent link
+link-handed-back : answerWords edition32 (HandBack 1) (one-live 2) .0 ≡ done
+unfolding one-live answerWords word
+link-handed-back = refl
+
+link-beyond-the-count : audited (one-live 2) .0 ≡ refused 6
+unfolding audited one-live word
+link-beyond-the-count = refl
+
+-- the fresh store with its leaf byte and no top bit over it: a take of that class is granted, and the audit says no
+no-top-bit : Words
+unfolding fresh
+no-top-bit = record {
+  size = fresh .size;
+  count = fresh .count;
+  total = fresh .total;
+  off = fresh .off;
+  top = 0;
+  leaves = fresh .leaves;
+  heads = fresh .heads;
+  nodes = fresh .nodes;
+  pile = fresh .pile;
+}
+
+granted-without-top-bit : answerWords edition32 (Take 96) no-top-bit .0 ≡ granted 0 0
+unfolding no-top-bit answerWords word up lib.Count.trailingZeros
+granted-without-top-bit = refl
+
+top-bit-asked-for : audited no-top-bit ≡ (refused 6, left)
+unfolding audited no-top-bit left word
+top-bit-asked-for = refl

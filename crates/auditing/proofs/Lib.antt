@@ -2,8 +2,8 @@
 -- Tests: a chain of tests taken apart. NoRepeats: a run that begins with an absent link meets no record twice.
 -- Marks: the pile and its marks. FirstRecord, ChainMet: where the chain begins, and the walk along it. ListsMet: the class lists.
 -- BitsMet: the bits. FreeRegions: the lists together are the free regions. YesSound: yes, so sound. SoundYes: sound, so yes.
--- Cleared: the scratch. Claims: all that is claimed. Promise: what the audit promises. Turns, Verdicts: one turn of each loop of the code,
--- and its parts joined.
+-- Cleared: the scratch. Unread: what is not read. Claims: all that is claimed. Promise: what the audit promises.
+-- Turns, Verdicts: one turn of each loop of the code, and its parts joined.
 -- Examples: the audit computed.
 pub mod Tests
 pub mod NoRepeats
@@ -14,6 +14,7 @@ pub mod ListsMet
 pub mod BitsMet
 pub mod FreeRegions
 pub mod Cleared
+pub mod Unread
 pub mod YesSound
 pub mod SoundYes
 pub mod Claims

@@ -36,18 +36,18 @@ module _ (nodes marks : List ℕ) (count : ℕ) where
   pub is-good : (c : ℕ) (m : Along) → goodMember nodes marks count c m ≡ true → Good c m
   unfolding goodMember
   is-good c m e =
-      let t1 = both (ltb (m .here) count) _ e in
-      let t2 = both (eqb (getD marks (m .here) 0) 0) _ (t1 .1) in
-      let t3 = both (eqb (word nodes binPrev (m .here)) (m .prev)) _ (t2 .1) in
-      let t4 = both (eqb (word nodes used (m .here)) 0) _ (t3 .1) in
+      let t4 = both _ (eqb (down (word nodes dataSize (m .here))) c) e in
+      let t3 = both _ (eqb (word nodes used (m .here)) 0) (t4 .0) in
+      let t2 = both _ (eqb (word nodes binPrev (m .here)) (m .prev)) (t3 .0) in
+      let t1 = both (ltb (m .here) count) (eqb (getD marks (m .here) 0) 0) (t2 .0) in
       record {
         member = record {
           low = ltb-true _ _ (t1 .0);
-          unmarked = eqb-true _ _ (t2 .0);
-          dead = eqb-true _ _ (t4 .0);
+          unmarked = eqb-true _ _ (t1 .1);
+          dead = eqb-true _ _ (t3 .1);
           class-is = eqb-true _ _ (t4 .1);
         };
-        joined = eqb-true _ _ (t3 .0);
+        joined = eqb-true _ _ (t2 .1);
       }
 
   good-is : (c : ℕ) (m : Along) → Good c m → goodMember nodes marks count c m ≡ true

@@ -34,9 +34,9 @@ module _ (nodes pile : List ℕ) (count : ℕ) where
   is-good : (marks : List ℕ) (r : ℕ) → goodSpare nodes marks count r ≡ true → Good marks r
   unfolding goodSpare
   is-good marks r e =
-      let one = both (ltb r count) _ e in
-      let two = both (eqb (getD marks r 0) 0) _ (one .1) in
-      record { low = ltb-true r count (one .0); unmarked = eqb-true _ 0 (two .0); dead = eqb-true _ 0 (two .1) }
+      let two = both _ (eqb (word nodes used r) 0) e in
+      let one = both (ltb r count) (eqb (getD marks r 0) 0) (two .0) in
+      record { low = ltb-true r count (one .0); unmarked = eqb-true _ 0 (one .1); dead = eqb-true _ 0 (two .1) }
 
   pub good-low : (marks : List ℕ) (r : ℕ) → goodSpare nodes marks count r ≡ true → r < count
   good-low marks r e = is-good marks r e .low

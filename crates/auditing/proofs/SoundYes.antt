@@ -27,7 +27,7 @@ use Rattle.tables.proofs.Shelf.{in-below, in-some}
 use Rattle.tables.proofs.SoundOf.{count-none, shelf-of}
 use Rattle.tables.proofs.OneLedger.{first-one}
 use Rattle.auditing.specs.Chain.{startsChain, firstRecord, started, walkEnds}
-use Rattle.auditing.specs.Audit.{chainWalk, restIsSound, endIsSound, recordsAreSound, pileIsSound, wordsAreSound}
+use Rattle.auditing.specs.Audit.{chainWalk, endIsSound, recordsAreSound, pileIsSound, wordsAreSound}
 use Rattle.auditing.proofs.Tests.{both}
 use Rattle.auditing.proofs.Marks.{InOrder, MarkedUpTo, marked-all, all-marked}
 use Rattle.auditing.proofs.FirstRecord.{first-found}
@@ -168,7 +168,7 @@ module _ (E : Edition) (w : Words) (l : Ledger Stacks) (S : Sound E w l) where
         ∙ omega (arith, met .frees-is)
 
     records-sound : recordsAreSound E w marks ≡ true
-    unfolding recordsAreSound endIsSound restIsSound sumBelow
+    unfolding recordsAreSound endIsSound sumBelow
     records-sound = rw (
       chain-ends,
       lists-end E (w .nodes) marks (w .count) small (w .heads) (chainWalk E w marks .frees) (l .index) lists-stand free-regions 256 0 0 refl refl,

@@ -23,7 +23,6 @@ use Rattle.auditing.specs.Lists.{listsFrom}
 use Rattle.auditing.specs.Bits.{bitsAgree}
 use Rattle.auditing.specs.Audit.{
   chainWalk,
-  restIsSound,
   endIsSound,
   recordsAreSound,
   pileIsSound,
@@ -52,13 +51,13 @@ module _ (E : Edition) (w : Words) (marks : List ℕ) (end : Walk) (walked : end
 
   pub lists-refused : walkEnds E (w .size) (w .count) (w .total) (w .off + 1) end ≡ true
       → listsFrom E 256 (w .nodes) marks (w .heads) (w .count) (end .frees) 0 0 ≡ false → recordsAreSound E w marks ≡ false
-  unfolding endIsSound restIsSound
+  unfolding endIsSound
   lists-refused e l = by-end ∙ rw (e, l)
 
   pub bits-decide : walkEnds E (w .size) (w .count) (w .total) (w .off + 1) end ≡ true
       → listsFrom E 256 (w .nodes) marks (w .heads) (w .count) (end .frees) 0 0 ≡ true
       → recordsAreSound E w marks ≡ bitsAgree E (w .heads) (w .leaves) (w .top)
-  unfolding endIsSound restIsSound
+  unfolding endIsSound
   bits-decide e l = by-end ∙ rw (e, l)
 
 -- ---- the pile before them

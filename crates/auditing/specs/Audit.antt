@@ -1,5 +1,5 @@
 -- The audit: all its tests in order, and the call with its gate and its scratch. Assumes nothing.
-use mathlib.Core.Bool.{Bool, true, false}
+use mathlib.Core.Bool.{Bool, true, false, _&&_}
 use mathlib.Core.List.{List}
 use Prim.Native.Nat.{ℕ, zero, suc, _+_}
 use lib.Dec.{ltb}
@@ -23,15 +23,16 @@ module _ (E : Edition) (w : Words) where
   chainWalk marks =
       walkFrom (w .count) (w .nodes) marks (w .count) (w .size) (started E (firstRecord E (w .count) (w .nodes) marks 0))
 
-  -- the lists and the bits, the chain having ended there
-  unfoldable pub restIsSound : (marks : List ℕ) → Walk → Bool
-  unfolding listsFrom bitsAgree
-  restIsSound marks end =
-      pick (listsFrom E 256 (w .nodes) marks (w .heads) (w .count) (end .frees) 0 0) (bitsAgree E (w .heads) (w .leaves) (w .top)) false
-
+  -- chain, lists and bits, the walk having ended there
   unfoldable pub endIsSound : (marks : List ℕ) → Walk → Bool
-  unfolding walkEnds restIsSound
-  endIsSound marks end = pick (walkEnds E (w .size) (w .count) (w .total) (w .off + 1) end) (restIsSound marks end) false
+  unfolding walkEnds listsFrom bitsAgree
+  endIsSound marks end =
+      -- "every other record .. occurs once in the neighbour chain"; "the kept free total is the true sum"
+      walkEnds E (w .size) (w .count) (w .total) (w .off + 1) end
+      -- "each class list holds exactly the free regions of its class"
+      && listsFrom E 256 (w .nodes) marks (w .heads) (w .count) (end .frees) 0 0
+      -- "a bit is set exactly where a list, or a leaf byte, is non-empty"
+      && bitsAgree E (w .heads) (w .leaves) (w .top)
 
   -- chain, lists and bits, the spare records being marked
   unfoldable pub recordsAreSound : (marks : List ℕ) → Bool
@@ -40,13 +41,16 @@ module _ (E : Edition) (w : Words) where
 
   unfoldable pub pileIsSound : Marked → Bool
   unfolding recordsAreSound
-  pileIsSound m = pick (m .fine) (recordsAreSound (m .marks)) false
+  pileIsSound m = m .fine && recordsAreSound (m .marks)
 
-  -- the pile leaves at least one record for the chain; then the pile, and then the rest; the scratch being clear
+  -- the scratch being clear
   unfoldable pub wordsAreSound : (scratch : List ℕ) → Bool
   unfolding pileIsSound markFrom
   wordsAreSound scratch =
-      pick (ltb (w .off + 1) (w .count)) (pileIsSound (markFrom (w .off + 1) (w .nodes) (w .pile) (w .count) 0 scratch)) false
+      -- "every other record, at least one": the pile leaves one
+      ltb (w .off + 1) (w .count)
+      -- "spare record numbers are distinct, below the count, not marked live", and then the rest
+      && pileIsSound (markFrom (w .off + 1) (w .nodes) (w .pile) (w .count) 0 scratch)
 
 -- ---- the call
 unfoldable pub verdict : Bool → Answer

@@ -1,5 +1,5 @@
 -- "a bit is set exactly where a list, or a leaf byte, is non-empty". Assumes nothing.
-use mathlib.Core.Bool.{Bool, true, false}
+use mathlib.Core.Bool.{Bool, true, _&&_}
 use mathlib.Core.List.{List}
 use Prim.Native.Nat.{ℕ, zero, suc, _+_, _*_}
 use lib.Dec.{eqb}
@@ -26,8 +26,13 @@ unfoldable pub leavesFrom : Edition → ℕ → (heads leaves : List ℕ) → �
 unfolding leafOf
 leavesFrom E zero heads leaves t = true
 leavesFrom E (suc k) heads leaves t =
-    pick (eqb (getD leaves t 0) (leafOf E heads t)) (leavesFrom E k heads leaves (t + 1)) false
+    eqb (getD leaves t 0) (leafOf E heads t)
+    && leavesFrom E k heads leaves (t + 1)
 
 unfoldable pub bitsAgree : Edition → (heads leaves : List ℕ) → (top : ℕ) → Bool
 unfolding leavesFrom topOf
-bitsAgree E heads leaves top = pick (leavesFrom E 32 heads leaves 0) (eqb top (topOf leaves)) false
+bitsAgree E heads leaves top =
+    -- "exactly where a list .. is non-empty"
+    leavesFrom E 32 heads leaves 0
+    -- "or a leaf byte"
+    && eqb top (topOf leaves)

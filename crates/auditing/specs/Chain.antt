@@ -1,6 +1,6 @@
 -- "every other record .. occurs once in the neighbour chain, which runs from 0 to the size, links agreeing both ways, no two free in a row".
 -- Assumes nothing.
-use mathlib.Core.Bool.{Bool, false, not}
+use mathlib.Core.Bool.{Bool, not, _&&_, _||_}
 use mathlib.Core.List.{List}
 use Prim.Native.Nat.{ℕ, zero, suc, _+_}
 use lib.Dec.{ltb, eqb}
@@ -11,7 +11,9 @@ use Rattle.auditing.specs.declared.chain.Walk.{Walk}
 
 -- ---- where the chain begins: at the record that is not spare and has nothing before it
 unfoldable pub startsChain : Edition → (nodes marks : List ℕ) → ℕ → Bool
-startsChain E nodes marks r = pick (eqb (getD marks r 0) 0) (eqb (word nodes neighborPrev r) (E .none)) false
+startsChain E nodes marks r =
+    eqb (getD marks r 0) 0
+    && eqb (word nodes neighborPrev r) (E .none)
 
 -- the first such record of k from i on, or the marker of an absent link
 unfoldable pub firstRecord : Edition → ℕ → (nodes marks : List ℕ) → ℕ → ℕ
@@ -20,22 +22,26 @@ firstRecord E zero nodes marks i = E .none
 firstRecord E (suc k) nodes marks i = pick (startsChain E nodes marks i) i (firstRecord E k nodes marks (i + 1))
 
 -- ---- one region
--- the used word is 0 or 1, and not 0 after a 0
+-- the used word is 0 or 1; "no two free in a row": not 0 after a 0
 unfoldable pub goodUsed : (before this : ℕ) → Bool
-goodUsed before this = pick (eqb this 0) (not (eqb before 0)) (eqb this 1)
+goodUsed before this =
+    (eqb this 0 || eqb this 1)
+    && not (eqb this 0 && eqb before 0)
 
--- the region at which the walk stands: a record below the count, not spare, that links back to the one before, begins where that one
--- ends, and ends in the store
+-- the region at which the walk stands
 unfoldable pub goodRegion : (nodes marks : List ℕ) → (count size : ℕ) → Walk → Bool
 unfolding goodUsed
 goodRegion nodes marks count size w =
-    pick (ltb (w .here) count)
-    (pick (eqb (getD marks (w .here) 0) 0)
-    (pick (eqb (word nodes neighborPrev (w .here)) (w .prev))
-    (pick (eqb (word nodes dataOffset (w .here)) (w .offset))
-    (pick (ltb size (w .offset + word nodes dataSize (w .here))) false
-    (goodUsed (w .used) (word nodes used (w .here))))
-    false) false) false) false
+    -- a record below the count, and not spare
+    ltb (w .here) count
+    && eqb (getD marks (w .here) 0) 0
+    -- "links agreeing both ways": it links back to the one by which it was reached
+    && eqb (word nodes neighborPrev (w .here)) (w .prev)
+    -- "runs from 0 to the size": it begins where the one before it ends, and ends in the store
+    && eqb (word nodes dataOffset (w .here)) (w .offset)
+    && not (ltb size (w .offset + word nodes dataSize (w .here)))
+    -- "no two free in a row"
+    && goodUsed (w .used) (word nodes used (w .here))
 
 -- past that region to the next: records, free regions and free lengths are counted
 unfoldable pub advanced : (nodes : List ℕ) → Walk → Walk
@@ -61,9 +67,13 @@ walkFrom zero nodes marks count size w = w
 walkFrom (suc k) nodes marks count size w =
     pick (goodRegion nodes marks count size w) (walkFrom k nodes marks count size (advanced nodes w)) w
 
--- it came to the end of the chain, and there to the end of the store; it met every record that is not spare; the kept total is right
+-- what is asked of the place where the walk ended
 unfoldable pub walkEnds : Edition → (size count total spares : ℕ) → Walk → Bool
 walkEnds E size count total spares w =
-    pick (eqb (w .here) (E .none))
-    (pick (eqb (w .offset) size)
-    (pick (eqb (w .records + spares) count) (eqb (w .total) total) false) false) false
+    -- it is the end of the chain, and there the end of the store: "runs from 0 to the size"
+    eqb (w .here) (E .none)
+    && eqb (w .offset) size
+    -- "every other record .. occurs once in the neighbour chain": those met and the spare ones make the count
+    && eqb (w .records + spares) count
+    -- "the kept free total is the true sum"
+    && eqb (w .total) total

@@ -1,6 +1,6 @@
 -- "each class list holds exactly the free regions of its class, links agreeing both ways": each member is a free region of the class, and
 -- all lists together have as many members as there are free regions. Assumes nothing.
-use mathlib.Core.Bool.{Bool, false}
+use mathlib.Core.Bool.{Bool, _&&_}
 use mathlib.Core.List.{List}
 use Prim.Native.Nat.{ℕ, zero, suc, _+_, _-_}
 use lib.Dec.{ltb, eqb}
@@ -10,14 +10,18 @@ use Rattle.tables.specs.Layout.{pick, dataSize, binPrev, binNext, used, word}
 use Rattle.tables.specs.Words.{Edition}
 use Rattle.auditing.specs.declared.lists.Along.{Along}
 
--- ---- one member: a record below the count, not spare, that links back to the one before, not live, and of the list's class
+-- ---- one member of class c's list
 unfoldable pub goodMember : (nodes marks : List ℕ) → (count c : ℕ) → Along → Bool
 unfolding down
 goodMember nodes marks count c m =
-    pick (ltb (m .here) count)
-    (pick (eqb (getD marks (m .here) 0) 0)
-    (pick (eqb (word nodes binPrev (m .here)) (m .prev))
-    (pick (eqb (word nodes used (m .here)) 0) (eqb (down (word nodes dataSize (m .here))) c) false) false) false) false
+    -- a record below the count, and not spare
+    ltb (m .here) count
+    && eqb (getD marks (m .here) 0) 0
+    -- "links agreeing both ways": it links back to the one by which it was reached
+    && eqb (word nodes binPrev (m .here)) (m .prev)
+    -- "the free regions of its class": not live, and of the list's class
+    && eqb (word nodes used (m .here)) 0
+    && eqb (down (word nodes dataSize (m .here))) c
 
 unfoldable pub nextMember : (nodes : List ℕ) → Along → Along
 nextMember nodes m = record { prev = m .here; here = word nodes binNext (m .here); listed = m .listed + 1 }
@@ -36,7 +40,7 @@ atHead E heads c listed = record { prev = E .none; here = getD heads c 0; listed
 -- ---- all lists
 -- where a list has come to its end, the next one; a walk that stopped before the end is refused
 unfoldable pub ended : Edition → Along → (ℕ → Bool) → Bool
-ended E m further = pick (eqb (m .here) (E .none)) (further (m .listed)) false
+ended E m further = eqb (m .here) (E .none) && further (m .listed)
 
 -- k lists from class c on, `listed` members having been met; there are `frees` free regions
 unfoldable pub listsFrom : Edition → ℕ → (nodes marks heads : List ℕ) → (count frees c listed : ℕ) → Bool

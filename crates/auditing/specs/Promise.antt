@@ -7,6 +7,7 @@ use Prim.Native.Nat.{ℕ, _≤_, _<_}
 use lib.ListN.{length, getD}
 use Rattle.ledger.specs.Ledger.{Answer, done, refused}
 use Rattle.tables.specs.Words.{Words, Edition}
+use Rattle.tables.specs.Claims.{BadCount}
 use Rattle.auditing.specs.Audit.{auditWords}
 use Rattle.auditing.specs.Claims.{OfHead, SomeLedger, AuditRoom, AuditShort}
 
@@ -14,10 +15,13 @@ use Rattle.auditing.specs.Claims.{OfHead, SomeLedger, AuditRoom, AuditSh
 pub record AuditPromise (E : Edition) (w : Words) (scratch left : List ℕ) (a : Answer) : Type 0 where
   -- answer and scratch are the model's, for all words
   pub exact : (a, left) ≡ auditWords E w scratch
+  -- w is what a head's types allow: the code shows it, and asks nobody for it
+  pub of-head : OfHead w
   -- yes exactly if the tables are long enough and some ledger stands in them
-  pub yes-exactly : OfHead w → (a ≡ done) ↔ (AuditRoom E w scratch × SomeLedger E w)
-  -- 2 exactly for a length; otherwise, if it is not yes, 6
+  pub yes-exactly : (a ≡ done) ↔ (AuditRoom E w scratch × SomeLedger E w)
+  -- 2 exactly for a length; 6 exactly for the count, or where the tables are long enough and no ledger stands in them; and no other answer
   pub two-exactly : (a ≡ refused 2) ↔ AuditShort E w scratch
+  pub six-exactly : (a ≡ refused 6) ↔ (BadCount E (w .count) ⊎ (AuditRoom E w scratch × ¬ SomeLedger E w))
   pub no-other : (a ≡ done) ⊎ ((a ≡ refused 2) ⊎ (a ≡ refused 6))
   -- the scratch: 0 below the count where the audit got so far, and beyond it as it came
   pub scratch-length : length left ≡ length scratch

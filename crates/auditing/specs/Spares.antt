@@ -1,15 +1,20 @@
 -- "spare record numbers are distinct, below the count, not marked live". Assumes nothing.
-use mathlib.Core.Bool.{Bool, true, false}
+use mathlib.Core.Bool.{Bool, true, false, _&&_}
 use mathlib.Core.List.{List}
 use Prim.Native.Nat.{ℕ, zero, suc, _+_}
 use lib.Dec.{ltb, eqb}
 use lib.ListN.{getD, set}
 use Rattle.tables.specs.Layout.{pick, used, word}
 
--- a record below the count, not met before, and not marked live
+-- one of them, those before it being marked
 unfoldable pub goodSpare : (nodes marks : List ℕ) → (count r : ℕ) → Bool
 goodSpare nodes marks count r =
-    pick (ltb r count) (pick (eqb (getD marks r 0) 0) (eqb (word nodes used r) 0) false) false
+    -- "below the count"
+    ltb r count
+    -- "distinct": not met before
+    && eqb (getD marks r 0) 0
+    -- "not marked live"
+    && eqb (word nodes used r) 0
 
 -- whether all were good, and the marks of those that were
 pub record Marked : Type 0 where

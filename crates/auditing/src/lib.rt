@@ -8,6 +8,7 @@ ghost use Rattle.tables.specs.Reach.{Room};
 ghost use Rattle.bins.specs.InWords.{wordsOf, HasRoom};
 ghost use Rattle.auditing.specs.Scratch.{cleared};
 ghost use Rattle.auditing.specs.Audit.{recordsAreSound, wordsAreSound, behindGate};
+ghost use Rattle.auditing.specs.Claims.{OfHead};
 ghost use Rattle.auditing.specs.Promise.{AuditPromise};
 ghost use Rattle.auditing.specs.Answers.{answerOf};
 use answers::Refusal;
@@ -112,6 +113,16 @@ fn behind_gate(
     verdict(sound)
 }
 
+// An array tells the proof its length where it is lent as a slice; there is nothing to do.
+fn as_slices(_heads: &[u32], _leaves: &[u8]) {}
+
+// What the types of a head's parts say of its words, whatever tables go with them.
+fn of_head(t: Totals, bin_indices: &[u32; 256], used_bins: &[u8; 32])
+    ensures { λ _. ⌜ ((nodes pile : List ℕ) → OfHead (wordsOf t (now («bin_indices» .entry)) (now («used_bins» .entry)) nodes pile)) ⌝ }
+{
+    as_slices(bin_indices, used_bins)
+}
+
 // Sound, or the refusal: 6 for the count, 2 for a table too short, 6 for words that stand for no ledger.
 pub fn audit(
     t: Totals,
@@ -125,6 +136,7 @@ pub fn audit(
         (wordsOf t (now («bin_indices» .entry)) (now («used_bins» .entry)) (now (nodes .entry)) (now («free_nodes» .entry)))
         (now (scratch .entry)) (now (scratch .exit)) (answerOf a) ⌝ }
 {
+    of_head(t, bin_indices, used_bins);
     match bins::gate::test(t.max_allocs, nodes, free_nodes, Refusal::Unsound) {
         Gate::Shut(why) => AuditAnswer::Refused(why),
         Gate::Open => behind_gate(t, bin_indices, used_bins, nodes, free_nodes, scratch),

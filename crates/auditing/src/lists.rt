@@ -23,13 +23,14 @@ fn good_member(nodes: &[u32], scratch: &[u32], max_allocs: u32, c: u32, m: Along
     ensures { λ b. ⌜ b ≡ goodMember (now (nodes .entry)) (now (scratch .entry)) «max_allocs» c m ⌝ }
 {
     let r = m.here;
+    let prev = m.prev;
     if max_allocs <= r {
         return false;
     }
     if crate::scratch::marked(scratch, r) != 0 {
         return false;
     }
-    if nodes::word(nodes, r, nodes::BIN_LIST_PREV) != m.prev {
+    if nodes::word(nodes, r, nodes::BIN_LIST_PREV) != prev {
         return false;
     }
     if nodes::word(nodes, r, nodes::USED) != 0 {

@@ -4,3 +4,4 @@ pub mod Clash
 pub mod Sums
 pub mod Counts
 pub mod Pigeons
+pub mod Lists

@@ -1,12 +1,14 @@
 -- The words that the code's pieces make: totals by value, two arrays and two tables lent. Assumes nothing.
 use mathlib.Core.Path.{_≡_}
-use Prim.Native.Nat.{ℕ, _+_, _*_, _/_, _%_, _≤_}
+use mathlib.Core.Logic.{_↔_}
+use Prim.Native.Nat.{ℕ, _+_, _*_, _/_, _%_, _≤_, _<_}
 use mathlib.Core.List.{List}
 use lib.Dec.{ltb, eqb}
 use lib.ListN.{length, getD, set}
 use Rattle.tables.specs.Layout.{pick}
 use Rattle.tables.specs.Steps.{setBit, clearBit}
 use Rattle.tables.specs.Words.{Words, Bounds}
+use Rattle.tables.specs.Search.{Found, class-is, no-class, bad-bits}
 use Rattle.answers.specs.Refusals.{numberOf}
 use Rattle.bins.specs.declared.totals.Totals.{Totals}
 use Rattle.bins.specs.declared.gate.Gate.{Gate}
@@ -36,6 +38,11 @@ HasRoom n nodes = 8 * n ≤ length nodes
 abbrev pub InTable : ℕ → List ℕ → Type 0
 InTable r nodes = 8 * r + 8 ≤ length nodes
 
+-- what the two come to, word by word; proofs/Rooms.antt makes it
+pub record RoomFacts : Type 0 where
+  pub in-table : (r : ℕ) (nodes : List ℕ) → InTable r nodes ↔ ((k : ℕ) → k < 8 → 8 * r + k < length nodes)
+  pub has-room : (n : ℕ) (nodes : List ℕ) → HasRoom n nodes ↔ ((r : ℕ) → r < n → InTable r nodes)
+
 -- ---- the bits, as insertAt and unlinkAt of tables/specs have them: what top word and leaf bytes are after a step
 pub record Bits (top′ : ℕ) (leaves′ : List ℕ) (top : ℕ) (leaves : List ℕ) : Type 0 where
   pub top-is : top ≡ top′
@@ -62,6 +69,12 @@ Unmarked n top c p x leaves =
     (pick (ltb p n) top
     (pick (ltb x n) top (pick (eqb (clearBit 8 (getD leaves (c / 8) 0) (c % 8)) 0) (clearBit 32 top (c / 8)) top)))
     (pick (ltb p n) leaves (pick (ltb x n) leaves (set leaves (c / 8) (clearBit 8 (getD leaves (c / 8) 0) (c % 8)))))
+
+-- ---- what a search found, as one number of the code: a class as itself, 256 for none, 257 for bits that contradict each other
+abbrev pub Tells : Found → ℕ → Type 0
+Tells (class-is c) n = (n ≡ c) × (n < 256)
+Tells no-class n = n ≡ 256
+Tells bad-bits n = n ≡ 257
 
 -- ---- the gate's number: 0 where it is open
 abbrev pub gateNumber : Gate → ℕ

@@ -2,6 +2,7 @@
 ghost use mathlib.Core.Path.{_≡_};
 ghost use Prim.Native.Nat.{_+_, _/_, _<_};
 ghost use Rattle.tables.specs.Search.{lowFrom, lowInBin, findClass, highBit};
+ghost use Rattle.bins.specs.InWords.{Tells};
 
 // No class was found.
 pub const NO_CLASS: u32 = 256;
@@ -10,7 +11,7 @@ pub const NO_CLASS: u32 = 256;
 pub const BAD_BITS: u32 = 257;
 
 pub fn wide(x: u8) -> u32
-    ensures { λ r. ⌜ r ≡ x ⌝ }
+    ensures { λ r. ⌜ (r ≡ x) × (r < 256) ⌝ }
 {
     x as u32
 }
@@ -30,7 +31,7 @@ fn lowest_bit_set_from(m: u32, i: u32) -> u32
 // The lowest class above the top bin of c: in the next top bin that holds something, and there from leaf 0 on, whatever leaf c has.
 fn lowest_above(used_bins: &[u8; 32], used_bins_top: u32, c: u32) -> u32
     requires { ⌜ c < 248 ⌝ }
-    ensures { λ r. ⌜ r ≡ lowInBin (now («used_bins» .entry)) (lowFrom «used_bins_top» (c / 8 + 1)) ⌝ }
+    ensures { λ r. ⌜ Tells (lowInBin (now («used_bins» .entry)) (lowFrom «used_bins_top» (c / 8 + 1))) r ⌝ }
 {
     let t = lowest_bit_set_from(used_bins_top, c / 8 + 1);
     if t < 32 {
@@ -47,7 +48,7 @@ fn lowest_above(used_bins: &[u8; 32], used_bins_top: u32, c: u32) -> u32
 // The lowest class from c on that holds something: in the top bin of c from its own leaf on, or above it.
 pub fn find_class(used_bins: &[u8; 32], used_bins_top: u32, c: u32) -> u32
     requires { ⌜ c < 248 ⌝ }
-    ensures { λ r. ⌜ r ≡ findClass (now («used_bins» .entry)) «used_bins_top» c ⌝ }
+    ensures { λ r. ⌜ Tells (findClass (now («used_bins» .entry)) «used_bins_top» c) r ⌝ }
 {
     let t = c / 8;
     let i = t as usize;

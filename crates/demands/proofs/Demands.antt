@@ -1,106 +1,117 @@
--- The demands, by citation: a run's words, answers and log are the model's, and of those the claims are proved. Assumes nothing.
-use mathlib.Core.Path.{_≡_, refl, sym, ap, subst, _∙_}
+-- The demands, by citation: along a run the words stand for the ledger, and of the ledger the claims are proved. Assumes nothing.
+use mathlib.Core.Path.{_≡_, refl, sym, ap, ap₂, subst, _∙_}
+use mathlib.Core.Logic.{inl, inr}
 use mathlib.Core.List.{List, [], _∷_}
 use Prim.Native.Nat.{ℕ, _^_, _≤_, _<_}
+use native.Mathlib.Omega.{arith}
 use lib.ListN.{length}
-use Rattle.ledger.specs.Ledger.{Ledger, Answer, done, setup, by-class}
-use Rattle.ledger.specs.Calls.{Call, Event, event, answers, end}
+use Rattle.basics.proofs.Clash.{clash}
+use Rattle.ledger.specs.Ledger.{Ledger, Answer, done, refused, setup, by-class, Stacks}
+use Rattle.ledger.specs.Calls.{Event, event, answer, end, log}
 use Rattle.ledger.specs.Stretch.{Stretch}
 use Rattle.ledger.specs.WellFormed.{WellFormed}
 use Rattle.ledger.specs.Claims.{Claims}
 use Rattle.ledger.proofs.Claims as ledger
+use Rattle.ledger.proofs.Records.{all-records}
 use Rattle.tables.specs.Words.{Words, Edition}
-use Rattle.tables.specs.Setup.{setupWords}
-use Rattle.tables.specs.Calls.{answerWords, endWords, answersWords, logWords}
 use Rattle.tables.specs.Sound.{Sound}
+use Rattle.tables.specs.Claims.{OneOf}
 use Rattle.tables.specs.Promise.{SetupPromise}
-use Rattle.tables.proofs.Refusals.{setup-done}
 use Rattle.tables.proofs.Claims as tables
-use Rattle.auditing.specs.Audit.{auditWords}
+use Rattle.tables.proofs.Runs.{step-sound}
 use Rattle.auditing.specs.Promise.{AuditPromise}
 use Rattle.auditing.proofs.Claims as auditing
-use Rattle.demands.specs.Runs.{Done, called, audited, Run, nothing, call, audit, callsOf, answersOf, logOf}
-use Rattle.demands.specs.Demands.{Demands, ledgerAfter}
+use Rattle.demands.specs.Runs.{Done, did, Auditing, Step, called, audited, set-up, Run, nothing, then, NoSetup, askedOf, answersOf, callsOf, logOf}
+use Rattle.demands.specs.Demands.{Since, Demands, ledgerAfter}
+use Rattle.demands.proofs.Twins.{Twin, twins, run-lengths}
 
 module _ (E : Edition) where
-  -- ---- a run is the model's
-  run-end : {w u : Words} {ds : List Done} → Run E w ds u → u ≡ endWords E (callsOf ds) w
-  unfolding endWords callsOf
-  run-end nothing = refl
-  run-end (call {c = c} {ds = ds} p rest) =
-      run-end rest ∙ ap (λ (x : Answer × Words). endWords E (callsOf ds) (x .1)) (p .exact)
-  run-end (audit p rest) = run-end rest
-
-  run-answers : {w u : Words} {ds : List Done} → Run E w ds u → answersOf ds ≡ answersWords E (callsOf ds) w
-  unfolding answersWords callsOf answersOf
-  run-answers nothing = refl
-  run-answers (call {a = a} {ds = ds} p rest) =
-      ap (λ (rest-of : List Answer). a ∷ rest-of) (run-answers rest)
-      ∙ ap (λ (x : Answer × Words). x .0 ∷ answersWords E (callsOf ds) (x .1)) (p .exact)
-  run-answers (audit p rest) = run-answers rest
-
-  run-log : {w u : Words} {ds : List Done} → Run E w ds u → logOf ds ≡ logWords E (callsOf ds) w
-  unfolding logWords callsOf logOf
-  run-log nothing = refl
-  run-log (call {c = c} {a = a} {ds = ds} p rest) =
-      ap (λ (es : List Event). event c a ∷ es) (run-log rest)
-      ∙ ap (λ (x : Answer × Words). event c (x .0) ∷ logWords E (callsOf ds) (x .1)) (p .exact)
-  run-log (audit p rest) = run-log rest
+  -- ---- a run without a setup, from words that stand for a ledger: its log is the ledger's, and its end stands for the ledger's end
+  run-sound : {size count : ℕ} → 2 ≤ count → size < 2 ^ 32 → (l : Ledger Stacks) → WellFormed by-class size count l → {w u : Words} {ds : List Done}
+      → Sound E w l → Run E w ds u → NoSetup ds
+      → (logOf ds ≡ log by-class size count (callsOf ds) l) × Sound E u (end by-class size count (callsOf ds) l)
+  unfolding logOf callsOf log end
+  run-sound two small l f S nothing n = (refl, S)
+  run-sound {size} {count} two small l f S (then (called {w = w} {v = v} {c = c} {a = a} p) rest) n =
+      let this = step-sound E size count c w l f S in
+      let answer-is : a ≡ answer by-class size count c l .0 = ap (λ (x : Answer × Words). x .0) (p .exact) ∙ this .0 in
+      let next : Sound E v (answer by-class size count c l .1) =
+      subst (λ (x : Words). Sound E x (answer by-class size count c l .1)) (sym (ap (λ (x : Answer × Words). x .1) (p .exact))) (this .1) in
+      let well = ledger.claims size count small two .shared .call-well c l f in
+      let later = run-sound two small (answer by-class size count c l .1) well next rest n in
+      (ap₂ {C = List Event} _∷_ (ap (event c) answer-is) (later .0), later .1)
+  run-sound two small l f S (then (audited e p) rest) n = run-sound two small l f S rest n
+  run-sound two small l f S (then (set-up t p) rest) n = absurd n
 
   -- ---- from an accepted setup
-  module _ (size count : ℕ) {nodes pile : List ℕ} {w : Words} (small : size < 2 ^ 32) (s : SetupPromise E size count nodes pile w done) where
-    accepted : setupWords E size count nodes pile .0 ≡ done
-    accepted = sym (ap (λ (x : Answer × Words). x .0) (s .exact))
-
+  module _ {size count : ℕ} {at-setup now : Words} {ds : List Done} (s : Since E size count at-setup ds now) where
     two : 2 ≤ count
-    two = setup-done E size count nodes pile .0 accepted .count-low
+    two = tables.claims E .setup-done size count (s .lent) .0 (sym (ap (λ (x : Answer × Words). x .0) (s .accepted .exact))) .count-low
 
-    pub run-well : (ds : List Done) → Claims size count × WellFormed by-class size count (ledgerAfter size count ds)
-    run-well ds =
-        let claims = ledger.claims size count small two in
-        (claims, claims .shared .reached-well (ledgerAfter size count ds) (callsOf ds, refl))
+    all-claims : Claims size count
+    all-claims = ledger.claims size count (s .accepted .size-fits) two
 
-    begun : w ≡ setupWords E size count nodes pile .1
-    begun = ap (λ (x : Answer × Words). x .1) (s .exact)
+    as-the-ledger : (logOf ds ≡ log by-class size count (callsOf ds) (setup by-class size count)) × Sound E now (ledgerAfter size count ds)
+    as-the-ledger =
+        run-sound two (s .accepted .size-fits) (setup by-class size count) (all-claims .shared .setup-well)
+        (s .accepted .ledger refl) (s .run) (s .no-setup)
 
-    pub run-as-ledger : {u : Words} {ds : List Done} → Run E w ds u
-        → (answersOf ds ≡ answers by-class size count (callsOf ds) (setup by-class size count)) × Sound E u (ledgerAfter size count ds)
-    run-as-ledger {u} {ds} run =
-        let told = tables.claims E .demand-2 size count nodes pile small accepted (callsOf ds) in (
-          run-answers run ∙ ap (answersWords E (callsOf ds)) begun ∙ told .0,
-          subst (λ (x : Words). Sound E x (ledgerAfter size count ds))
-              (sym (run-end run ∙ ap (endWords E (callsOf ds)) begun)) (told .1),
-        )
+    well : WellFormed by-class size count (ledgerAfter size count ds)
+    well = all-claims .shared .reached-well (ledgerAfter size count ds) (callsOf ds, refl)
 
-    pub run-audited : {u : Words} {ds : List Done} {scratch left : List ℕ} {a : Answer} → Run E w ds u → AuditPromise E u scratch left a
-        → u .count ≤ length scratch → a ≡ done
-    run-audited {u} {ds} {scratch} run p long =
+    counted : now .count ≡ count
+    counted = sym (all-records (as-the-ledger .1 .well .lined)) ∙ all-records (well .lined)
+
+    audit-says-yes : {n : ℕ} {after : Words} {a : Answer} {later : List Done} → Run E now (did (Auditing n) a ∷ later) after → count ≤ n → a ≡ done
+    audit-says-yes (then (audited {scratch = scratch} e p) rest) long =
         ap (λ (x : Answer × List ℕ). x .0)
-        (p .exact ∙ auditing.claims E .sound-yes u (ledgerAfter size count ds) scratch (run-as-ledger run .1) long)
+        (p .exact ∙ auditing.claims E .sound-yes now (ledgerAfter size count ds) scratch (as-the-ledger .1) (omega (arith, counted, e, long)))
 
-    pub run-never : {v u x y : Words} {before ds later instead : List Done} → Run E w before v → Run E v ds u → Stretch [] (logOf ds)
-        → Run E u later x → Run E v instead y → callsOf later ≡ callsOf instead → answersOf later ≡ answersOf instead
-    run-never {v} {u} {x} {y} {before} {ds} {later} {instead} first run stretch after other same =
-        let moment : v ≡ endWords E (callsOf before) (setupWords E size count nodes pile .1) =
-        run-end first ∙ ap (endWords E (callsOf before)) begun in
-        let stretched : Stretch [] (logWords E (callsOf ds) (endWords E (callsOf before) (setupWords E size count nodes pile .1))) =
-        subst (Stretch []) (run-log run ∙ ap (logWords E (callsOf ds)) moment) stretch in
-        let never = tables.claims E .demand-3 size count nodes pile small accepted (callsOf before) (callsOf ds) stretched (callsOf later) in
-        run-answers after
-        ∙ ap (answersWords E (callsOf later)) (run-end run ∙ ap (endWords E (callsOf ds)) moment)
-        ∙ never
-        ∙ ap (answersWords E (callsOf later)) (sym moment)
-        ∙ ap (λ (cs : List Call). answersWords E cs v) same
-        ∙ sym (run-answers other)
+    -- the ledger is the same after the stretch, so the words on both sides of it stand for one ledger
+    as-never : {after-the-stretch one-end other-end : Words} {stretch later instead : List Done}
+        → Run E now stretch after-the-stretch → NoSetup stretch → Stretch [] (logOf stretch)
+        → Run E after-the-stretch later one-end → Run E now instead other-end → askedOf later ≡ askedOf instead
+        → answersOf later ≡ answersOf instead
+    as-never {after-the-stretch} {stretch = stretch} run n h after other same =
+        let l = ledgerAfter size count ds in
+        let stretched = run-sound two (s .accepted .size-fits) l well (as-the-ledger .1) run n in
+        let restored = all-claims .shared .stretch-restores (callsOf stretch) l well (subst (Stretch []) (stretched .0) h) in
+        twins E record {
+          lengths = run-lengths E run;
+          kind = inl (l, subst (Sound E after-the-stretch) restored (stretched .1), as-the-ledger .1);
+        } after other same
+
+  audit-numbered : {w : Words} {scratch left : List ℕ} {k : ℕ} → AuditPromise E w scratch left (refused k) → OneOf (2 ∷ 6 ∷ []) k
+  audit-numbered p = elim (p .no-other) [
+    | inl e ↦ clash (cc)
+    | inr (inl e) ↦ inl (cc)
+    | inr (inr e) ↦ inr (inl (cc))
+  ]
 
 pub demands : (E : Edition) → Demands E
 demands E = record {
+  call-numbered = λ {c} {w} {v} {k} p. tables.claims E .numbers c w k (sym (ap (λ (x : Answer × Words). x .0) (p .exact)));
+  setup-numbered = λ {size} {count} {lent} {v} {k} p.
+      tables.claims E .setup-numbers size count lent k (sym (ap (λ (x : Answer × Words). x .0) (p .exact)));
+  audit-numbered = audit-numbered E;
   refusal-keeps = λ k p q. p .kept k q;
-  refused-setup = λ k p q. p .kept k q;
-  inside = λ p. p .inside _ _ _ refl refl;
-  as-the-ledger = λ size count small s run. run-as-ledger E size count small s run;
-  well-formed = λ size count {nodes} {pile} {w} {u} {ds} small s run. run-well E size count small s ds;
-  audit-says-yes = λ size count small s run p long. run-audited E size count small s run p long;
-  as-never = λ size count small s first run stretch after other same.
-      run-never E size count small s first run stretch after other same;
+  refused-setup-keeps = λ k s q.
+      let kept = s .kept k q in
+      (ap (λ (x : Words). x .heads) kept, ap (λ (x : Words). x .leaves) kept, ap (λ (x : Words). x .nodes) kept, ap (λ (x : Words). x .pile) kept);
+  refused-setup-zeros = λ k s q.
+      let kept = s .kept k q in (
+        ap (λ (x : Words). x .size) kept,
+        ap (λ (x : Words). x .count) kept,
+        ap (λ (x : Words). x .total) kept,
+        ap (λ (x : Words). x .off) kept,
+        ap (λ (x : Words). x .top) kept,
+      );
+  then-6 = λ {v = v} {c = c} k s q p.
+      let none : v .count ≡ 0 = ap (λ (x : Words). x .count) (s .kept k q) in
+      ap (λ (x : Answer × Words). x .0) (p .exact ∙ tables.claims E .call-6 c v (inl (omega (arith, none))));
+  inside = λ {s} {o} {r} p. p .inside s o r refl refl;
+  as-the-ledger = λ s. as-the-ledger E s;
+  well-formed = λ s. (all-claims E s, well E s);
+  audit-says-yes = λ s run long. audit-says-yes E s run long;
+  as-never = λ s run n h after other same. as-never E s run n h after other same;
 }

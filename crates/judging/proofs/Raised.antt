@@ -1,11 +1,11 @@
--- A counter that was raised is not 0. Assumes nothing.
+-- A counter that was raised is not 0; and no two places of the table are one. Assumes nothing.
 use mathlib.Core.Path.{_≡_, refl}
 use mathlib.Core.Bool.{Bool, true, false}
 use Prim.Native.Nat.{ℕ}
 use native.Mathlib.Omega.{arith}
 use Rattle.basics.proofs.Decided.{Same, same, differ, same?}
 use Rattle.replay.specs.Tally.{oneMore}
-use Rattle.judging.specs.Counted.{NeverRaised}
+use Rattle.judging.specs.Counted.{NeverRaised, CountClaims}
 
 more-than-0 : (n : ℕ) → oneMore n ≡ 0 → ⊥
 unfolding oneMore
@@ -18,3 +18,11 @@ more-than-0 n = go (same? n 18446744073709551615)
 pub never-raised : NeverRaised
 never-raised true n e = absurd (more-than-0 n e)
 never-raised false n e = (refl, e)
+
+pub count-claims : CountClaims
+count-claims = record {
+  none-changed = λ t line column changed outside e. never-raised changed (t .changed) e;
+  none-outside = λ t line column changed outside e. never-raised outside (t .outside) e;
+  none-differ = λ t differ e. never-raised differ (t .differ) e;
+  cells-apart = λ line column line′ column′ a b c d e. (omega arith, omega arith);
+}

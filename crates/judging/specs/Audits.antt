@@ -23,3 +23,11 @@ ScratchLeft cleared scratch = (i : ℕ) → i < 16 → getD scratch i 0 ≡ left
 pub record AuditKept (before after : Store) (scratch : List ℕ) (changed : Bool) : Type 0 where
   pub kept : changed ≡ false → (after ≡ before) × ScratchLeft (clearedBy (before .totals .«max_allocs»)) scratch
   pub blamed : changed ≡ true → after ≡ before → ScratchLeft (clearedBy (before .totals .«max_allocs»)) scratch → ⊥
+
+-- so an audit is judged in one way: any two judgements that this allows are the same
+abbrev pub OneAuditJudgement : Type 0
+OneAuditJudgement =
+    (before after : Store) (scratch : List ℕ) (x y : Bool)
+    → AuditKept before after scratch x
+    → AuditKept before after scratch y
+    → x ≡ y

@@ -1,7 +1,7 @@
 -- How calls are counted, and what a counter of 0 says. Assumes nothing.
 use mathlib.Core.Path.{_≡_}
 use mathlib.Core.Bool.{Bool, false}
-use Prim.Native.Nat.{ℕ, _+_, _*_, _%_}
+use Prim.Native.Nat.{ℕ, _+_, _*_, _%_, _<_}
 use lib.ListN.{getD, set, replicate}
 use Rattle.tables.specs.Layout.{pick}
 use Rattle.replay.specs.Tally.{oneMore}
@@ -34,3 +34,20 @@ compared t differ = record { counts = t .counts; changed = t .changed; outside =
 -- a counter that is 0 in the end was never raised
 abbrev pub NeverRaised : Type 0
 NeverRaised = (raised : Bool) (n : ℕ) → oneMoreIf raised n ≡ 0 → (raised ≡ false) × (n ≡ 0)
+
+-- so a tally that shows none counted none; and no two places of the table are one
+pub record CountClaims : Type 0 where
+  pub none-changed : (t : Tally) (line column : ℕ) (changed outside : Bool)
+      → counted t line column changed outside .changed ≡ 0
+      → (changed ≡ false) × (t .changed ≡ 0)
+  pub none-outside : (t : Tally) (line column : ℕ) (changed outside : Bool)
+      → counted t line column changed outside .outside ≡ 0
+      → (outside ≡ false) × (t .outside ≡ 0)
+  pub none-differ : (t : Tally) (differ : Bool) → compared t differ .differ ≡ 0 → (differ ≡ false) × (t .differ ≡ 0)
+  pub cells-apart : (line column line′ column′ : ℕ)
+      → line < 8
+      → column < 9
+      → line′ < 8
+      → column′ < 9
+      → cell line column ≡ cell line′ column′
+      → (line ≡ line′) × (column ≡ column′)

@@ -48,32 +48,56 @@ isQuestion call.Nothing = true
 abbrev pub mustKeep : Call → Answer → Bool
 mustKeep c a = pick (isRefused a) true (isQuestion c)
 
--- the same tables under a head of zeros
-abbrev pub noHead : Store → Store
-noHead s = record {
+abbrev pub isSetUp : Call → Bool
+isSetUp (call.SetUp size count) = true
+isSetUp call.Reset = false
+isSetUp (call.Take size) = false
+isSetUp (call.HandBack number) = false
+isSetUp (call.SizeOf number) = false
+isSetUp call.Report = false
+isSetUp (call.ClassOf class) = false
+isSetUp call.ClassesHeld = false
+isSetUp call.Nothing = false
+
+-- the same arrays and tables beside totals of zeros; the same totals and tables beside arrays of zeros
+abbrev pub noTotals : Store → Store
+noTotals s = record {
   totals = record { size = 0; «max_allocs» = 0; «free_storage» = 0; «free_offset» = 0; «used_bins_top» = 0 };
+  «bin_indices» = s .«bin_indices»;
+  «used_bins» = s .«used_bins»;
+  nodes = s .nodes;
+  «free_nodes» = s .«free_nodes»;
+}
+
+abbrev pub noArrays : Store → Store
+noArrays s = record {
+  totals = s .totals;
   «bin_indices» = replicate 256 0;
   «used_bins» = replicate 32 0;
   nodes = s .nodes;
   «free_nodes» = s .«free_nodes»;
 }
 
--- what a call that must leave every word leaves; a setup has no head to leave, and where it is refused makes one of zeros
+-- what a call that must leave every word leaves; a setup takes no totals, and where it is refused gives totals of zeros
 abbrev pub leftBy : Call → Store → Store
-leftBy (call.SetUp size count) s = noHead s
-leftBy call.Reset s = s
-leftBy (call.Take size) s = s
-leftBy (call.HandBack number) s = s
-leftBy (call.SizeOf number) s = s
-leftBy call.Report s = s
-leftBy (call.ClassOf class) s = s
-leftBy call.ClassesHeld s = s
-leftBy call.Nothing s = s
+leftBy c s = pick (isSetUp c) (noTotals s) s
+
+-- what a call by value is lent: the arrays of a setup are then its own, and begin as zeros
+abbrev pub lentByValue : Call → Store → Store
+lentByValue c s = pick (isSetUp c) (noArrays s) s
 
 -- every word is left that must be: `changed` is the judgement
 pub record Kept (c : Call) (a : Answer) (before after : Store) (changed : Bool) : Type 0 where
   pub kept : mustKeep c a ≡ true → changed ≡ false → after ≡ leftBy c before
   pub blamed : changed ≡ true → (mustKeep c a ≡ true) × (after ≡ leftBy c before → ⊥)
+
+-- so a call is judged in one way: any two judgements that this allows are the same
+abbrev pub OneJudgement : Type 0
+OneJudgement =
+    (c : Call) (a : Answer) (before after : Store) (x y : Bool)
+    → Kept c a before after x
+    → Kept c a before after y
+    → x ≡ y
 
 -- whether an answer grants a span of this size that does not lie in a store of this size
 abbrev pub grantOutside : Answer → (size store : ℕ) → Bool

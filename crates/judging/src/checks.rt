@@ -3,7 +3,7 @@ ghost use mathlib.Core.Path.{_≡_};
 ghost use mathlib.Core.Bool.{true, false};
 ghost use Prim.Native.Nat.{_+_, _<_, _≤_};
 ghost use lib.Dec.{ltb};
-ghost use Rattle.judging.specs.Judged.{isRefused, isQuestion, mustKeep, leftBy, Kept, grantOutside, isOutside};
+ghost use Rattle.judging.specs.Judged.{isRefused, isQuestion, mustKeep, isSetUp, leftBy, lentByValue, Kept, grantOutside, isOutside};
 use crate::alike;
 use crate::answer::Answer;
 use crate::call::Call;
@@ -59,21 +59,40 @@ fn must_keep(call: Call, answer: Answer) -> bool
     is_question(call)
 }
 
-// What a call that must leave every word leaves. A setup has no head to leave, and where it is refused makes one of zeros.
+pub fn is_setup(call: Call) -> bool
+    ensures { λ r. ⌜ r ≡ isSetUp call ⌝ }
+{
+    match call {
+        Call::SetUp(_, _) => true,
+        Call::Reset => false,
+        Call::Take(_) => false,
+        Call::HandBack(_) => false,
+        Call::SizeOf(_) => false,
+        Call::Report => false,
+        Call::ClassOf(_) => false,
+        Call::ClassesHeld => false,
+        Call::Nothing => false,
+    }
+}
+
+// What a call that must leave every word leaves. A setup takes no totals, and where it is refused gives totals of zeros.
 fn left_by(call: Call, before: Store) -> Store
     ensures { λ r. ⌜ r ≡ leftBy call before ⌝ }
 {
-    match call {
-        Call::SetUp(_, _) => before.with_no_head(),
-        Call::Reset => before,
-        Call::Take(_) => before,
-        Call::HandBack(_) => before,
-        Call::SizeOf(_) => before,
-        Call::Report => before,
-        Call::ClassOf(_) => before,
-        Call::ClassesHeld => before,
-        Call::Nothing => before,
+    if is_setup(call) {
+        return before.with_no_totals();
     }
+    before
+}
+
+// What a call by value is lent: the arrays of a setup are then its own, and begin as zeros.
+pub fn lent_by_value(call: Call, before: Store) -> Store
+    ensures { λ r. ⌜ r ≡ lentByValue call before ⌝ }
+{
+    if is_setup(call) {
+        return before.with_no_arrays();
+    }
+    before
 }
 
 // The call had to leave every word, and did not.

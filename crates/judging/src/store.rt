@@ -1,6 +1,6 @@
 // A head with its tables, all of it by value: a call is made on a copy, and what stood before it stays at hand.
 ghost use mathlib.Core.Path.{_≡_};
-ghost use Rattle.judging.specs.Judged.{noHead};
+ghost use Rattle.judging.specs.Judged.{noTotals, noArrays};
 use bins::totals::Totals;
 
 // Tables for 16 records. The nodes have words for two more, so that a count of 17 or 18 finds the pile alone too short.
@@ -16,10 +16,12 @@ pub struct Store {
 pub const RECORDS: u32 = 16;
 
 impl Store {
-    // The same tables under a head of zeros, which a refused setup leaves.
-    pub fn with_no_head(self) -> Store
-        ensures { λ r. ⌜ r ≡ noHead self ⌝ }
+    // The same arrays and tables beside totals of zeros, which a refused setup gives.
+    pub fn with_no_totals(self) -> Store
+        ensures { λ r. ⌜ r ≡ noTotals self ⌝ }
     {
+        let bin_indices = self.bin_indices;
+        let used_bins = self.used_bins;
         let nodes = self.nodes;
         let free_nodes = self.free_nodes;
         let totals = Totals {
@@ -29,6 +31,22 @@ impl Store {
             free_offset: 0,
             used_bins_top: 0,
         };
+        Store {
+            totals,
+            bin_indices,
+            used_bins,
+            nodes,
+            free_nodes,
+        }
+    }
+
+    // The same totals and tables beside arrays of zeros, with which a setup by value begins.
+    pub fn with_no_arrays(self) -> Store
+        ensures { λ r. ⌜ r ≡ noArrays self ⌝ }
+    {
+        let totals = self.totals;
+        let nodes = self.nodes;
+        let free_nodes = self.free_nodes;
         Store {
             totals,
             bin_indices: [0u32; 256],

@@ -1,17 +1,20 @@
 -- A grant: which region it is, where it lies, and that nothing live overlaps it then or later. Assumes nothing.
 use Rattle.ledger.specs.Ledger.{Engine, Ledger, cut, take, Region, live, free, len, granted}
 use Rattle.ledger.specs.Laws.{Laws}
-use mathlib.Core.Path.{_≡_, refl, sym, subst}
+use mathlib.Core.Path.{_≡_, refl, sym, ap, _∙_, subst}
 use Prim.Native.Nat.{ℕ, zero, suc, _-_, _≤_}
 use native.Mathlib.Omega.{arith}
 use mathlib.Core.Logic.{inl, inr, _≢_}
-use mathlib.Core.List.{List, []}
+use mathlib.Core.List.{List, [], _∷_, _++_, reverse, reverseAux-eq}
+use lib.ListN.{length, getD, drop}
+use lib.Seq.{drop-cons}
 use Rattle.basics.specs.Sum.{tally}
 use Rattle.basics.proofs.Clash.{clash}
+use Rattle.basics.proofs.Sums.{tally-reverseAux}
 use Rattle.ledger.specs.Calls.{end, Call}
 use Rattle.ledger.specs.WellFormed.{WellFormed}
 use Rattle.ledger.specs.Spans.{At, first, Disjoint, AllLeave}
-use Rattle.ledger.specs.Claims.{Grant}
+use Rattle.ledger.specs.Claims.{Grant, Remainder, nothing-left, next-record}
 use Rattle.ledger.proofs.Places.{between-at, at-behind, same-region}
 use Rattle.ledger.proofs.Records.{once-in-line}
 use Rattle.ledger.proofs.Cases.{Serving, TakeCase, few-spares, no-region, serves, take-case}
@@ -27,18 +30,46 @@ module _ (E : Engine) (laws : Laws E) where
   cut-at s zero before after n r l = at-behind before first (omega arith)
   cut-at s (suc k) before after n r l = at-behind before first (omega arith)
 
+  -- what a cut leaves of the region, of the line and of the pile
+  record Cut (s k : ℕ) (before after : List Region) (n r : ℕ) (l : Ledger (E .Index)) : Type 0 where
+    remainder : List Region
+    line-is : cut E s k before n r after l .line ≡ reverse before ++ (live s r ∷ (remainder ++ after))
+    remainder-is : Remainder k (l .pile) remainder (cut E s k before n r after l .pile)
+
+  cut-is : (s k : ℕ) (before after : List Region) (n r : ℕ) (l : Ledger (E .Index)) → 2 ≤ length (l .pile) → Cut s k before after n r l
+  unfolding cut
+  cut-is s zero before after n r l two = record {
+    remainder = [];
+    line-is = reverseAux-eq before (live s r ∷ after);
+    remainder-is = nothing-left refl;
+  }
+  cut-is s (suc k) before after n r l two = record {
+    remainder = free (suc k) (getD (l .pile) 0 0) ∷ [];
+    line-is = reverseAux-eq before (live s r ∷ free (suc k) (getD (l .pile) 0 0) ∷ after);
+    remainder-is = next-record (getD (l .pile) 0 0) (drop 1 (l .pile)) (omega arith) (drop-cons (l .pile) 0 0 (omega arith));
+  }
+
   module _ (size count : ℕ) where
     pub the-grant : (s o r : ℕ) (l : Ledger (E .Index)) → WellFormed E size count l → take E s l .0 ≡ granted o r → Grant E s o r l
     the-grant s o r l w g = go (take-case E laws w s)
       where
         of-serving : (t : Serving E s l) → Grant E s (tally len (t .before)) (t .r) l
-        of-serving t = record {
-          length-before = t .n;
-          was-free = between-at (t .place);
-          chosen = t .chosen;
-          reaching = t .reaching;
-          is-live = rw (t .outcome) (cut-at s (t .n - s) (t .before) (t .after) (t .n) (t .r) l);
-        }
+        of-serving t =
+            let parts = cut-is s (t .n - s) (t .before) (t .after) (t .n) (t .r) l (t .two-spare) in
+            record {
+              length-before = t .n;
+              was-free = between-at (t .place);
+              chosen = t .chosen;
+              reaching = t .reaching;
+              is-live = rw (t .outcome) (cut-at s (t .n - s) (t .before) (t .after) (t .n) (t .r) l);
+              front = reverse (t .before);
+              back = t .after;
+              remainder = parts .remainder;
+              line-was = t .place .line-is ∙ reverseAux-eq (t .before) (free (t .n) (t .r) ∷ t .after);
+              place-was = omega (arith, tally-reverseAux len (t .before) []);
+              line-is = ap (λ a. a .1 .line) (t .outcome) ∙ parts .line-is;
+              remainder-is = subst (λ a. Remainder (t .n - s) (l .pile) (parts .remainder) (a .1 .pile)) (sym (t .outcome)) (parts .remainder-is);
+            }
 
         go : TakeCase E s l → Grant E s o r l
         go (few-spares h e) = clash (cc)

@@ -1,20 +1,22 @@
 -- The spans that are out by the history are the live regions, so with the free lengths they make the size. Assumes nothing.
 use Rattle.ledger.specs.Ledger.{Engine, Ledger, setup, take, handBack, report, Region, live, free, len, freeLen}
 use Rattle.ledger.specs.Laws.{Laws}
-use mathlib.Core.Path.{_≡_, refl}
+use mathlib.Core.Path.{_≡_, refl, ap}
 use Prim.Native.Nat.{ℕ, _+_, _-_, _≤_}
 use native.Mathlib.Omega.{arith}
 use mathlib.Core.Bool.{_&&_}
-use mathlib.Core.List.{List, [], _∷_}
+use mathlib.Core.Logic.{_↔_}
+use mathlib.Core.List.{List, [], _∷_, _++_}
 use lib.ListN.{length}
 use lib.Dec.{eqb}
 use Rattle.basics.specs.Sum.{one, tally}
 use Rattle.basics.proofs.Decided.{Same, same, differ, same?, eqb-same}
-use Rattle.basics.proofs.Sums.{tally-le, both-first}
+use Rattle.basics.proofs.Sums.{tally-le, tally-append, both-first}
 use Rattle.ledger.specs.Calls.{answer, end, log, Call, Take, HandBack, SizeOf, Report, FullReport, Reset, event}
 use Rattle.ledger.specs.WellFormed.{WellFormed, has}
-use Rattle.ledger.specs.History.{Span, strike, note, outAfter}
-use Rattle.ledger.proofs.Places.{Between, sum-at}
+use Rattle.ledger.specs.Spans.{At, first, later}
+use Rattle.ledger.specs.History.{Span, strike, note, outAfter, IsOut}
+use Rattle.ledger.proofs.Places.{Between, sum-at, at-weighs}
 use Rattle.ledger.proofs.Records.{once-in-line}
 use Rattle.ledger.proofs.LiveSums.{cut-adds, merge-takes}
 use Rattle.ledger.proofs.Cases.{TakeCase, few-spares, no-region, serves, take-case, LiveCase, is-live, not-live, live-case}
@@ -69,6 +71,43 @@ module _ (E : Engine) (laws : Laws E) where
   alike-own : (n r : ℕ) → alike n r n r ≡ 1
   unfolding alike
   alike-own n r = rw (eqb-same r, eqb-same n)
+
+  -- ---- a weight that counts one span, or one live region: it is not 0 exactly if that one is there
+  span-there : (n r : ℕ) (out : List Span) → 1 ≤ tally (ofSpan (alike n r)) out → IsOut n r out
+  unfolding alike
+  span-there n r [] h = absurd (omega arith)
+  span-there n r (x ∷ out) h = go (same? (x .number) r) (same? (x .size) n) (span-there n r out)
+    where
+      further-on : IsOut n r out → IsOut n r (x ∷ out)
+      further-on t = (x ∷ t .0, t .1, ap {B = List Span} (λ xs. x ∷ xs) (t .2))
+
+      go : Same (x .number) r → Same (x .size) n → (1 ≤ tally (ofSpan (alike n r)) out → IsOut n r out) → IsOut n r (x ∷ out)
+      go (same p e) (same q f) behind = ([], out, λ i. record { size = q i; number = p i } ∷ out)
+      go (same p e) (differ q f) behind = further-on (behind (omega (arith, rw (e, f) at h)))
+      go (differ p e) q behind = further-on (behind (omega (arith, rw e at h)))
+
+  span-counts : (n r : ℕ) (out : List Span) → IsOut n r out → 1 ≤ tally (ofSpan (alike n r)) out
+  span-counts n r out t = omega (
+    arith,
+    ap (tally (ofSpan (alike n r))) (t .2),
+    tally-append (ofSpan (alike n r)) (t .0) (record { size = n; number = r } ∷ t .1),
+    alike-own n r,
+  )
+
+  region-there : (n r : ℕ) (line : List Region) → 1 ≤ tally (ofRegion (alike n r)) line → (o : ℕ) × At (live n r) o line
+  unfolding alike
+  region-there n r [] h = absurd (omega arith)
+  region-there n r (free m q ∷ line) h = let t = region-there n r line (omega arith) in (m + t .0, later {y = free m q} (t .1))
+  region-there n r (live m q ∷ line) h = go (same? q r) (same? m n) (region-there n r line)
+    where
+      further-on : (o : ℕ) × At (live n r) o line → (o : ℕ) × At (live n r) o (live m q ∷ line)
+      further-on t = (m + t .0, later {y = live m q} (t .1))
+
+      go : Same q r → Same m n → (1 ≤ tally (ofRegion (alike n r)) line → (o : ℕ) × At (live n r) o line)
+          → (o : ℕ) × At (live n r) o (live m q ∷ line)
+      go (same p e) (same k f) behind = (0, rw (p, k) first)
+      go (same p e) (differ k f) behind = further-on (behind (omega (arith, rw (e, f) at h)))
+      go (differ p e) k behind = further-on (behind (omega (arith, rw e at h)))
 
   return-told : (size count n r : ℕ) (before after : List Region) (l : Ledger (E .Index)) (out : List Span) → WellFormed E size count l → Told out l
       → Between before (live n r) after (l .line)
@@ -136,6 +175,21 @@ module _ (E : Engine) (laws : Laws E) where
           lengths (end E size count cs (setup E size count) .line),
           end-well E laws size count two cs (setup E size count) w .lined .cover,
         )
+
+    pub history-live : (cs : List Call) (n r : ℕ)
+        → IsOut n r (outAfter (log E size count cs (setup E size count)) [])
+        ↔ ((o : ℕ) × At (live n r) o (end E size count cs (setup E size count) .line))
+    unfolding Told
+    history-live cs n r = (
+      λ t. region-there n r (end E size count cs (setup E size count) .line)
+          (omega (arith, alike-told, span-counts n r (outAfter (log E size count cs (setup E size count)) []) t)),
+      λ x. span-there n r (outAfter (log E size count cs (setup E size count)) [])
+          (omega (arith, alike-told, at-weighs (x .1) (ofRegion (alike n r)), alike-own n r)),
+    )
+      where
+        alike-told : tally (ofSpan (alike n r)) (outAfter (log E size count cs (setup E size count)) [])
+            ≡ tally (ofRegion (alike n r)) (end E size count cs (setup E size count) .line)
+        alike-told = run-told cs (setup E size count) [] (setup-well E laws size count two) (setup-told size count) (alike n r)
 
     pub report-total : (cs : List Call) → 2 ≤ length (end E size count cs (setup E size count) .pile)
         → tally (λ (x : Span). x .size) (outAfter (log E size count cs (setup E size count)) [])

@@ -1,5 +1,5 @@
 -- Cut, merge and setup keep line and pile in order, whatever the stacks hold. Assumes nothing.
-use Rattle.ledger.specs.Ledger.{Engine, Ledger, cut, merge, setup, Region, live, free, len, gap, owed, past}
+use Rattle.ledger.specs.Ledger.{Engine, Ledger, cut, beside, merge, setup, Region, live, free, len}
 use mathlib.Core.Path.{_≡_, refl, ap}
 use Prim.Native.Nat.{ℕ, zero, suc, _+_, _-_, _≤_}
 use native.Mathlib.Omega.{arith}
@@ -11,22 +11,24 @@ use Rattle.basics.proofs.Sums.{tally-append, tally-reverseAux, tally-first, bel
 use Rattle.ledger.specs.WellFormed.{has, Lined}
 use Rattle.ledger.proofs.Numbers.{tally-numbersFrom, length-numbersFrom}
 use Rattle.ledger.proofs.Places.{Between, sum-at}
-use Rattle.ledger.proofs.Apart.{apart-sides, apart-joined, apart-past}
+use Rattle.ledger.proofs.Apart.{apart-sides, apart-joined, apart-rest}
 
 -- ---- the two sides of a region handed back: what a side loses to it
-pub side-len : (side : List Region) → tally len side ≡ tally len (past side) + gap side
-unfolding past gap
-side-len [] = refl
-side-len (live n r ∷ rest) = omega arith
-side-len (free n r ∷ rest) = omega arith
-
-pub side-has : (r : ℕ) (side : List Region) → tally (has r) side ≡ tally (has r) (past side) + tally (is r) (owed side)
-unfolding past owed
-side-has r [] = refl
-side-has r (live n q ∷ rest) = omega arith
-side-has r (free n q ∷ rest) = omega arith
-
 module _ (E : Engine) where
+  pub side-len : (side : List Region) (x : E .Index) → tally len side ≡ tally len (beside E side x .rest) + beside E side x .added
+  unfolding beside
+  side-len [] x = refl
+  side-len (live n r ∷ rest) x = omega arith
+  side-len (free n r ∷ rest) x = omega arith
+
+  pub side-has : (r : ℕ) (side : List Region) (x : E .Index)
+      → tally (has r) side ≡ tally (has r) (beside E side x .rest) + tally (is r) (beside E side x .owed)
+  unfolding beside
+  side-has r [] x = refl
+  side-has r (live n q ∷ rest) x = omega arith
+  side-has r (free n q ∷ rest) x = omega arith
+
+  -- ---- the ledger
   module _ (size count : ℕ) where
     pub cut-lined : (s k : ℕ) {before after : List Region} {n r : ℕ} (l : Ledger (E .Index)) → Between before (free n r) after (l .line)
         → s + k ≡ n → 2 ≤ length (l .pile) → Lined size count (l .line) (l .pile)
@@ -63,31 +65,33 @@ module _ (E : Engine) where
         → Lined size count (merge E before n r after l .line) (merge E before n r after l .pile)
     unfolding merge
     merge-lined {before} {after} {n} {r} l b w =
-        let whole = gap before + n + gap after in
+        let b-side = beside E before (l .index) in
+        let a-side = beside E after (b-side .index) in
+        let whole = b-side .added + n + a-side .added in
         let sides = apart-sides before (live n r) after (rw (b .line-is) at (w .apart)) in
         record {
           cover = omega (
             arith,
-            tally-reverseAux len (past before) (free whole r ∷ past after),
+            tally-reverseAux len (b-side .rest) (free whole r ∷ a-side .rest),
             sum-at b len,
-            side-len before,
-            side-len after,
+            side-len before (l .index),
+            side-len after (b-side .index),
             w .cover,
           );
-          apart = apart-joined (past before) (free whole r) (past after)
-              (apart-past whole r before (sides .0 .1)) (apart-past whole r after (sides .1 .1));
+          apart = apart-joined (b-side .rest) (free whole r) (a-side .rest)
+              (apart-rest E (l .index) whole r before (sides .0 .1)) (apart-rest E (b-side .index) whole r after (sides .1 .1));
           once = λ i. omega (
             arith,
-            tally-reverseAux (has i) (past before) (free whole r ∷ past after),
+            tally-reverseAux (has i) (b-side .rest) (free whole r ∷ a-side .rest),
             sum-at b (has i),
-            side-has i before,
-            side-has i after,
-            tally-append (is i) (owed after) (owed before ++ l .pile),
-            tally-append (is i) (owed before) (l .pile),
+            side-has i before (l .index),
+            side-has i after (b-side .index),
+            tally-append (is i) (a-side .owed) (b-side .owed ++ l .pile),
+            tally-append (is i) (b-side .owed) (l .pile),
             w .once i,
           );
-          spare = omega (arith, w .spare, length-append (owed after) (owed before ++ l .pile), length-append (owed before) (l .pile));
-          some-region = omega (arith, length-reverseAux (past before) (free whole r ∷ past after));
+          spare = omega (arith, w .spare, length-append (a-side .owed) (b-side .owed ++ l .pile), length-append (b-side .owed) (l .pile));
+          some-region = omega (arith, length-reverseAux (b-side .rest) (free whole r ∷ a-side .rest));
         }
 
     pub setup-lined : 2 ≤ count → Lined size count (setup E size count .line) (setup E size count .pile)

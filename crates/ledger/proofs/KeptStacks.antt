@@ -8,7 +8,7 @@ use Rattle.basics.specs.Sum.{is, tally}
 use Rattle.basics.proofs.Decided.{eqb-same}
 use Rattle.basics.proofs.Sums.{both-second}
 use Rattle.small_float.specs.Class.{down}
-use Rattle.ledger.specs.Ledger.{Region, live, free, stands, Stacked, Stacks, by-class, past, unlist}
+use Rattle.ledger.specs.Ledger.{Region, live, free, stands, Stacked, Stacks, by-class, beside}
 use Rattle.ledger.specs.WellFormed.{has}
 use Rattle.ledger.proofs.Places.{Between, sum-at}
 use Rattle.ledger.proofs.Stacks.{tally-without}
@@ -28,8 +28,9 @@ in-its-stack {n = n} {r = r} stacks b w = omega (arith, sum-at b (stands (down n
 
 -- one side of a region handed back: the stacks lose what the side loses
 pub side-stands : (stacks : Stacks) (side : List Region) → ((c i : ℕ) → tally (stands c i) side ≤ tally (is i) (stacks c))
-    → (c i : ℕ) → tally (is i) (unlist by-class side stacks c) + tally (stands c i) side ≡ tally (is i) (stacks c) + tally (stands c i) (past side)
-unfolding past unlist
+    → (c i : ℕ) → tally (is i) (beside by-class side stacks .index c) + tally (stands c i) side
+    ≡ tally (is i) (stacks c) + tally (stands c i) (beside by-class side stacks .rest)
+unfolding beside
 side-stands stacks [] h c i = omega arith
 side-stands stacks (live n r ∷ rest) h c i = omega arith
 side-stands stacks (free n r ∷ rest) h c i =

@@ -13,9 +13,11 @@ pub mod Cases
 pub mod CallsWell
 pub mod Stays
 pub mod LiveAtMost
+pub mod Reached
 pub mod Refusals
 pub mod Spans
 pub mod Grants
+pub mod Returns
 pub mod ReportRule
 pub mod History
 pub mod Undo
@@ -24,6 +26,12 @@ pub mod ByClass
 pub mod Answers
 pub mod SmallStores
 pub mod FullReport
+pub mod Figures
+pub mod Plain
+pub mod Fresh
+pub mod Largest
 pub mod ClassGrants
+pub mod ClassReturns
+pub mod Meanings
 pub mod Claims
 pub mod ClassCases

@@ -1,5 +1,5 @@
 -- A sum over the live regions of a line: a cut adds the region that becomes live, a merge takes away the one handed back. Assumes nothing.
-use Rattle.ledger.specs.Ledger.{Engine, Ledger, cut, merge, Region, live, free, gap, past}
+use Rattle.ledger.specs.Ledger.{Engine, Ledger, cut, beside, merge, Region, live, free}
 use mathlib.Core.Path.{_≡_, refl}
 use Prim.Native.Nat.{ℕ, zero, suc, _+_}
 use native.Mathlib.Omega.{arith}
@@ -26,22 +26,24 @@ module _ (E : Engine) where
           nothing-free (suc k) (getD (l .pile) 0 0),
         )
 
-    past-same : (side : List Region) → tally f (past side) ≡ tally f side
-    unfolding past
-    past-same [] = refl
-    past-same (live n r ∷ rest) = refl
-    past-same (free n r ∷ rest) = omega (arith, nothing-free n r)
+    rest-same : (side : List Region) (x : E .Index) → tally f (beside E side x .rest) ≡ tally f side
+    unfolding beside
+    rest-same [] x = refl
+    rest-same (live n r ∷ rest) x = refl
+    rest-same (free n r ∷ rest) x = omega (arith, nothing-free n r)
 
     pub merge-takes : {before after : List Region} {n r : ℕ} (l : Ledger (E .Index)) → Between before (live n r) after (l .line)
         → tally f (merge E before n r after l .line) + f (live n r) ≡ tally f (l .line)
     unfolding merge
     merge-takes {before} {after} {n} {r} l b =
-        let whole = gap before + n + gap after in
+        let b-side = beside E before (l .index) in
+        let a-side = beside E after (b-side .index) in
+        let whole = b-side .added + n + a-side .added in
         omega (
           arith,
-          tally-reverseAux f (past before) (free whole r ∷ past after),
+          tally-reverseAux f (b-side .rest) (free whole r ∷ a-side .rest),
           sum-at b f,
           nothing-free whole r,
-          past-same before,
-          past-same after,
+          rest-same before (l .index),
+          rest-same after (b-side .index),
         )

@@ -1,20 +1,22 @@
 -- When a call on a ledger in order is refused, with which number, and that it then changes nothing. Assumes nothing.
-use Rattle.ledger.specs.Ledger.{Engine, Ledger, take, handBack, sizeOf, len, refused}
+use Rattle.ledger.specs.Ledger.{Engine, Ledger, take, handBack, sizeOf, Region, len, live, free, length-is, refused}
 use Rattle.ledger.specs.Laws.{Laws}
-use mathlib.Core.Path.{_≡_, refl, ap, subst}
+use mathlib.Core.Path.{_≡_, refl, ap, _∙_, subst}
 use Prim.Native.Nat.{ℕ, _^_, _≤_, _<_}
 use native.Mathlib.Omega.{arith}
 use mathlib.Core.Logic.{_↔_, _⊎_, inl, inr, _≢_}
 use mathlib.Core.Option.{none}
+use mathlib.Core.List.{List, _∷_, _++_}
 use lib.ListN.{length}
 use Rattle.basics.specs.Sum.{is, tally}
 use Rattle.basics.proofs.Clash.{clash}
 use Rattle.basics.proofs.Decided.{Below, below, beyond, below?}
 use Rattle.ledger.specs.Calls.{answer, Call, Take, HandBack, SizeOf, Report, FullReport, Reset}
 use Rattle.ledger.specs.WellFormed.{WellFormed}
-use Rattle.ledger.specs.Claims.{Refused, NoneReaches, Live, CanRefuse, too-few-spares, none-reaches, unknown}
-use Rattle.ledger.proofs.Places.{between-at, at-weighs}
-use Rattle.ledger.proofs.Records.{record-below}
+use Rattle.ledger.specs.Spans.{At}
+use Rattle.ledger.specs.Claims.{Granted, Refused, NoneReaches, Live, CanRefuse, too-few-spares, none-reaches, unknown}
+use Rattle.ledger.proofs.Places.{between-at, at-weighs, at-front, split, same-region}
+use Rattle.ledger.proofs.Records.{once-in-line, record-below}
 use Rattle.ledger.proofs.Cases.{TakeCase, few-spares, no-region, serves, take-case, LiveCase, is-live, not-live, live-case}
 
 module _ (E : Engine) (laws : Laws E) where
@@ -57,7 +59,42 @@ module _ (E : Engine) (laws : Laws E) where
         then (below h e) (inr out) = (4, refusal-4 small s l w .1 (h, out))
         then (beyond h e) (inr out) = (3, refusal-3 s l w .1 h)
 
+    pub granted-or-refused : (s : ℕ) (l : Ledger (E .Index)) → WellFormed E size count l → Granted E s l ⊎ Refused E s l
+    granted-or-refused s l w = go (take-case E laws w s)
+      where
+        go : TakeCase E s l → Granted E s l ⊎ Refused E s l
+        go (few-spares h e) = inr (3, ap (λ a. a .0) e)
+        go (no-region h empty e) = inr (4, ap (λ a. a .0) e)
+        go (serves t) = inl (_, _, ap (λ a. a .0) (t .outcome))
+
+    pub not-both : (s : ℕ) (l : Ledger (E .Index)) → Granted E s l → ¬ Refused E s l
+    not-both s l g x = clash (cc (g .2, x .1))
+
+    pub none-reaches-exactly : (s : ℕ) (l : Ledger (E .Index))
+        → NoneReaches E s l ↔ (¬ ((n : ℕ) × (r : ℕ) × (o : ℕ) × At (free n r) o (l .line) × (E .need s ≤ E .rank n)))
+    none-reaches-exactly s l = (
+      λ none x. omega (arith, none (x .0) (x .2, x .1, x .3), x .4),
+      λ none n f. elim (below? (E .rank n) (E .need s)) [ below h e ↦ h | beyond h e ↦ absurd (none (n, f .1, f .0, f .2, h)) ],
+    )
+
     -- ---- hand back and the size query
+    pub live-exactly : (r : ℕ) (l : Ledger (E .Index))
+        → Live r l ↔ ((n : ℕ) × (front : List Region) × (back : List Region) × (l .line ≡ front ++ (live n r ∷ back)))
+    live-exactly r l = (
+      λ v. let t = split (v .2) in (v .0, t .0, t .1, t .2),
+      λ t. (t .0, tally len (t .1), rw (t .3) (at-front (t .1) (live (t .0) r) (t .2))),
+    )
+
+    pub size-told : (n r o : ℕ) (l : Ledger (E .Index)) → WellFormed E size count l → At (live n r) o (l .line) → sizeOf r l ≡ length-is n
+    size-told n r o l w a = go (live-case E w r)
+      where
+        go : LiveCase E r l → sizeOf r l ≡ length-is n
+        go (not-live h e q) = absurd (h (n, o, a))
+        go (is-live m before after b e q) =
+            let both : live m r ≡ live n r = same-region (between-at b) a r refl refl (once-in-line (w .lined) r) in
+            let lengths : m ≡ n = cc in
+            q ∙ ap length-is lengths
+
     pub refusal-5 : (r : ℕ) (l : Ledger (E .Index)) → WellFormed E size count l → (handBack E r l .0 ≡ refused 5) ↔ (¬ Live r l)
     refusal-5 r l w = go (live-case E w r)
       where

@@ -1,5 +1,5 @@
 -- A live region stays where it is, at its length, until its record is handed back or the store is reset. Assumes nothing.
-use Rattle.ledger.specs.Ledger.{Engine, Ledger, cut, merge, take, handBack, Region, live, free, len, gap, past}
+use Rattle.ledger.specs.Ledger.{Engine, Ledger, Side, cut, beside, merge, take, handBack, Region, live, free, len}
 use Rattle.ledger.specs.Laws.{Laws}
 use mathlib.Core.Path.{_≡_}
 use Prim.Native.Nat.{ℕ, zero, suc, _+_, _-_, _≤_}
@@ -19,44 +19,45 @@ use Rattle.ledger.proofs.CallsWell.{call-well}
 
 module _ (E : Engine) (laws : Laws E) where
   -- A region of a line that is cut in two: it stands in front, and so it stands there whatever follows, or it stands behind.
-  data Side (y : Region) (o start : ℕ) (front rest : List Region) : Type 0 where
-    in-front : ((other : List Region) → At y o (reverseAux front other)) → Side y o start front rest
-    behind : (p : ℕ) → o ≡ start + p → At y p rest → Side y o start front rest
+  data Half (y : Region) (o start : ℕ) (front rest : List Region) : Type 0 where
+    in-front : ((other : List Region) → At y o (reverseAux front other)) → Half y o start front rest
+    behind : (p : ℕ) → o ≡ start + p → At y p rest → Half y o start front rest
 
-  side : {y : Region} {o : ℕ} (front rest : List Region) → At y o (reverseAux front rest) → Side y o (tally len front) front rest
-  side {o = o} [] rest a = behind o (omega arith) a
-  side {y} {o} (x ∷ front) rest a = go (side front (x ∷ rest) a)
+  half : {y : Region} {o : ℕ} (front rest : List Region) → At y o (reverseAux front rest) → Half y o (tally len front) front rest
+  half {o = o} [] rest a = behind o (omega arith) a
+  half {y} {o} (x ∷ front) rest a = go (half front (x ∷ rest) a)
     where
-      by-place : (p : ℕ) → o ≡ tally len front + p → Where y p x rest → Side y o (tally len (x ∷ front)) (x ∷ front) rest
+      by-place : (p : ℕ) → o ≡ tally len front + p → Where y p x rest → Half y o (tally len (x ∷ front)) (x ∷ front) rest
       by-place p e (here q z) = in-front (λ other. rw q (at-behind front first (omega arith)))
       by-place p e (further k z b) = behind k (omega arith) b
 
-      go : Side y o (tally len front) front (x ∷ rest) → Side y o (tally len (x ∷ front)) (x ∷ front) rest
+      go : Half y o (tally len front) front (x ∷ rest) → Half y o (tally len (x ∷ front)) (x ∷ front) rest
       go (in-front stays) = in-front (λ other. stays (x ∷ other))
       go (behind p e b) = by-place p e (where? b)
 
   -- a live region is not the free neighbour that a merge takes in, before or after
-  side-past : {n r o : ℕ} (before rest : List Region) → At (live n r) o (reverseAux before rest)
-      → Side (live n r) o (tally len before) (past before) rest
-  unfolding past
-  side-past [] rest a = side [] rest a
-  side-past (live m q ∷ before) rest a = side (live m q ∷ before) rest a
-  side-past {n} {r} {o} (free m q ∷ before) rest a = go (side before (free m q ∷ rest) a)
+  before-rest : {n r o : ℕ} (before rest : List Region) (x : E .Index) → At (live n r) o (reverseAux before rest)
+      → Half (live n r) o (tally len before) (beside E before x .rest) rest
+  unfolding beside
+  before-rest [] rest x a = half [] rest a
+  before-rest (live m q ∷ before) rest x a = half (live m q ∷ before) rest a
+  before-rest {n} {r} {o} (free m q ∷ before) rest x a = go (half before (free m q ∷ rest) a)
     where
       by-place : (p : ℕ) → o ≡ tally len before + p → Where (live n r) p (free m q) rest
-          → Side (live n r) o (tally len (free m q ∷ before)) before rest
+          → Half (live n r) o (tally len (free m q ∷ before)) before rest
       by-place p e (here c z) = clash (cc)
       by-place p e (further k z b) = behind k (omega arith) b
 
-      go : Side (live n r) o (tally len before) before (free m q ∷ rest) → Side (live n r) o (tally len (free m q ∷ before)) before rest
+      go : Half (live n r) o (tally len before) before (free m q ∷ rest) → Half (live n r) o (tally len (free m q ∷ before)) before rest
       go (in-front stays) = in-front stays
       go (behind p e b) = by-place p e (where? b)
 
-  after-past : {n r o : ℕ} (after : List Region) → At (live n r) o after → (p : ℕ) × (o ≡ gap after + p) × At (live n r) p (past after)
-  unfolding gap past
-  after-past [] a = absurd (at-none a)
-  after-past {o = o} (live m q ∷ after) a = (o, omega arith, a)
-  after-past {n} {r} {o} (free m q ∷ after) a = go (where? a)
+  after-rest : {n r o : ℕ} (after : List Region) (x : E .Index) → At (live n r) o after
+      → (p : ℕ) × (o ≡ beside E after x .added + p) × At (live n r) p (beside E after x .rest)
+  unfolding beside
+  after-rest [] x a = absurd (at-none a)
+  after-rest {o = o} (live m q ∷ after) x a = (o, omega arith, a)
+  after-rest {n} {r} {o} (free m q ∷ after) x a = go (where? a)
     where
       go : Where (live n r) o (free m q) after → (p : ℕ) × (o ≡ m + p) × At (live n r) p after
       go (here e z) = clash (cc)
@@ -66,7 +67,7 @@ module _ (E : Engine) (laws : Laws E) where
   cut-leaves : (s k : ℕ) {before after : List Region} {n r m q o : ℕ} (l : Ledger (E .Index)) → Between before (free m q) after (l .line) → s + k ≡ m
       → At (live n r) o (l .line) → At (live n r) o (cut E s k before m q after l .line)
   unfolding cut
-  cut-leaves s k {before} {after} {n} {r} {m} {q} {o} l b e a = go k e (side before (free m q ∷ after) (rw (b .line-is) at a))
+  cut-leaves s k {before} {after} {n} {r} {m} {q} {o} l b e a = go k e (half before (free m q ∷ after) (rw (b .line-is) at a))
     where
       moved : (k : ℕ) → s + k ≡ m → (p : ℕ) → o ≡ tally len before + p → Where (live n r) p (free m q) after
           → At (live n r) o (cut E s k before m q after l .line)
@@ -75,7 +76,7 @@ module _ (E : Engine) (laws : Laws E) where
       moved (suc k) e p z (further j w c) =
           at-behind before (later {y = live s q} (later {y = free (suc k) (getD (l .pile) 0 0)} c)) (omega arith)
 
-      go : (k : ℕ) → s + k ≡ m → Side (live n r) o (tally len before) before (free m q ∷ after)
+      go : (k : ℕ) → s + k ≡ m → Half (live n r) o (tally len before) before (free m q ∷ after)
           → At (live n r) o (cut E s k before m q after l .line)
       go zero e (in-front stays) = stays _
       go (suc k) e (in-front stays) = stays _
@@ -85,21 +86,28 @@ module _ (E : Engine) (laws : Laws E) where
   merge-leaves : {before after : List Region} {n r m q o : ℕ} (l : Ledger (E .Index)) → Between before (live m q) after (l .line) → q ≢ r
       → At (live n r) o (l .line) → At (live n r) o (merge E before m q after l .line)
   unfolding merge
-  merge-leaves {before} {after} {n} {r} {m} {q} {o} l b h a = go (side-past before (live m q ∷ after) (rw (b .line-is) at a))
+  merge-leaves {before} {after} {n} {r} {m} {q} {o} l b h a =
+      go (before-rest before (live m q ∷ after) (l .index) (rw (b .line-is) at a))
     where
+      b-side : Side (E .Index)
+      b-side = beside E before (l .index)
+
+      a-side : Side (E .Index)
+      a-side = beside E after (b-side .index)
+
       whole : ℕ
-      whole = gap before + m + gap after
+      whole = b-side .added + m + a-side .added
 
       moved : (p : ℕ) → o ≡ tally len before + p → Where (live n r) p (live m q) after
-          → At (live n r) o (reverseAux (past before) (free whole q ∷ past after))
+          → At (live n r) o (reverseAux (b-side .rest) (free whole q ∷ a-side .rest))
       moved p z (here c w) = let number : q ≡ r = cc in absurd (h number)
       moved p z (further j w c) =
-          let rest = after-past after c in
-          at-behind (past before) (later {y = free whole q} (rest .2)) (omega (arith, side-len before, rest .1))
+          let rest = after-rest after (b-side .index) c in
+          at-behind (b-side .rest) (later {y = free whole q} (rest .2)) (omega (arith, side-len E before (l .index), rest .1))
 
-      go : Side (live n r) o (tally len before) (past before) (live m q ∷ after)
-          → At (live n r) o (reverseAux (past before) (free whole q ∷ past after))
-      go (in-front stays) = stays (free whole q ∷ past after)
+      go : Half (live n r) o (tally len before) (b-side .rest) (live m q ∷ after)
+          → At (live n r) o (reverseAux (b-side .rest) (free whole q ∷ a-side .rest))
+      go (in-front stays) = stays (free whole q ∷ a-side .rest)
       go (behind p z c) = moved p z (where? c)
 
   module _ (size count : ℕ) (two : 2 ≤ count) where

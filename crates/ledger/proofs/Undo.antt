@@ -1,6 +1,6 @@
 -- A hand-back straight after a grant undoes it: line, stacks and pile are what they were. Assumes nothing.
 use Rattle.ledger.specs.Ledger.{Engine, Ledger, Region, live, free, granted, done}
-use Rattle.ledger.specs.Ledger.{cut, gap, owed, past, merge, unlist, take, handBack, giveBack}
+use Rattle.ledger.specs.Ledger.{Side, cut, beside, merge, take, handBack, giveBack}
 use Rattle.ledger.specs.Laws.{Laws}
 use mathlib.Core.Path.{_≡_, refl, sym}
 use Prim.Native.Nat.{ℕ, zero, suc, _+_, _-_, _≤_}
@@ -18,48 +18,39 @@ use Rattle.ledger.proofs.Cases.{Serving, TakeCase, few-spares, no-regio
 
 module _ (E : Engine) (laws : Laws E) where
   -- a side that begins with no free region adds nothing to a merge
-  record Shut (side : List Region) : Type 0 where
-    no-gap : gap side ≡ 0
-    none-owed : owed side ≡ []
-    all-past : past side ≡ side
-    all-listed : (x : E .Index) → unlist E side x ≡ x
+  abbrev Shut : List Region → Type 0
+  Shut side = (x : E .Index) → beside E side x ≡ record { added = 0; owed = []; rest = side; index = x }
 
   -- beside a free region no free region stands
   shut : (n r : ℕ) (side : List Region) → Abut (free n r) side → Shut side
-  unfolding gap owed past unlist
-  shut n r [] h = record { no-gap = refl; none-owed = refl; all-past = refl; all-listed = λ stacks. refl }
-  shut n r (live m q ∷ rest) h = record { no-gap = refl; none-owed = refl; all-past = refl; all-listed = λ stacks. refl }
-  shut n r (free m q ∷ rest) h = absurd h
+  unfolding beside
+  shut n r [] h x = refl
+  shut n r (live m q ∷ rest) h x = refl
+  shut n r (free m q ∷ rest) h x = absurd h
 
   undo-cut : (s k : ℕ) {before after : List Region} {n r : ℕ} (l : Ledger (E .Index)) → Between before (free n r) after (l .line)
       → s + k ≡ n → 2 ≤ length (l .pile) → Shut before → Shut after → tally (has r) before ≡ 0 → E .enter n r (E .leave n r (l .index)) ≡ l .index
       → handBack E r (cut E s k before n r after l) ≡ (done, l)
   unfolding handBack giveBack cut merge
   undo-cut s zero {before} {after} {n} {r} l b e two hb ha z back =
-      let whole : gap before + s + gap after ≡ n = omega (arith, hb .no-gap, ha .no-gap) in
+      let whole : 0 + s + 0 ≡ n = omega arith in
       let fewer = E .leave n r (l .index) in
       rw (
         find-there r before (live s r) after refl z,
+        hb fewer,
+        ha fewer,
         whole,
-        hb .all-past,
-        ha .all-past,
-        hb .none-owed,
-        ha .none-owed,
-        hb .all-listed fewer,
-        ha .all-listed fewer,
         back,
       ) (λ i. (done, record { line = sym (b .line-is) i; index = l .index; pile = l .pile }))
   undo-cut s (suc k) {before} {after} {n} {r} l b e two hb ha z back =
-      let whole : gap before + s + suc k ≡ n = omega (arith, hb .no-gap) in
+      let whole : 0 + s + suc k ≡ n = omega arith in
       let fewer = E .leave n r (l .index) in
       let next = getD (l .pile) 0 0 in
       let pile-is : next ∷ drop 1 (l .pile) ≡ l .pile = sym (drop-cons (l .pile) 0 0 (omega arith)) in
       rw (
         find-there r before (live s r) (free (suc k) next ∷ after) refl z,
+        hb (E .enter (suc k) next fewer),
         whole,
-        hb .all-past,
-        hb .none-owed,
-        hb .all-listed (E .enter (suc k) next fewer),
         laws .leaves-again (suc k) next fewer,
         back,
       ) (λ i. (done, record { line = sym (b .line-is) i; index = l .index; pile = pile-is i }))

@@ -15,6 +15,12 @@ pub data Call : Type 0 where
 pub data Event : Type 0 where
   event : Call → Answer → Event
 
+abbrev pub callOf : Event → Call
+callOf (event c a) = c
+
+abbrev pub answerOf : Event → Answer
+answerOf (event c a) = a
+
 -- a store set up with this size and this count of records, under this engine
 module _ (E : Engine) (size count : ℕ) where
   -- the answer, and the ledger after it

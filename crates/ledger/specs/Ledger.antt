@@ -202,38 +202,33 @@ module _ (E : Engine) where
   take s l = cond (spares l) (grantTop s l (E .choose s (l .line) (l .index))) (refused 3, l)
 
 -- ---- hand back
--- Of the regions on one side, the nearest first: the length of a free one next to it, its record, what stands beyond it, and the index without it.
-unfoldable pub gap : List Region → ℕ
-gap [] = 0
-gap (live n r ∷ xs) = 0
-gap (free n r ∷ xs) = n
-
-unfoldable pub owed : List Region → List ℕ
-owed [] = []
-owed (live n r ∷ xs) = []
-owed (free n r ∷ xs) = r ∷ []
-
-unfoldable pub past : List Region → List Region
-past [] = []
-past (live n r ∷ xs) = live n r ∷ xs
-past (free n r ∷ xs) = xs
+-- One side of a region that is handed back, read once: the length and the record of a free region next to it (0 and none if there is none), the
+-- rest of that side, and the index without that region.
+pub record Side (Index : Type 0) : Type 0 where
+  pub added : ℕ
+  pub owed : List ℕ
+  pub rest : List Region
+  pub index : Index
 
 module _ (E : Engine) where
-  unfoldable pub unlist : List Region → E .Index → E .Index
-  unlist [] index = index
-  unlist (live n r ∷ xs) index = index
-  unlist (free n r ∷ xs) index = E .leave n r index
+  -- of the regions on that side, the nearest first
+  unfoldable pub beside : List Region → E .Index → Side (E .Index)
+  beside [] index = record { added = 0; owed = []; rest = []; index = index }
+  beside (live n r ∷ xs) index = record { added = 0; owed = []; rest = live n r ∷ xs; index = index }
+  beside (free n r ∷ xs) index = record { added = n; owed = r ∷ []; rest = xs; index = E .leave n r index }
 
   -- "The region merges with a free one before and a free one after. Their records go onto the pile, the one before first. The merged region
   -- keeps the record number handed back and goes on top of its class."
   unfoldable pub merge : List Region → (n r : ℕ) → List Region → Ledger (E .Index) → Ledger (E .Index)
-  unfolding gap owed past unlist
+  unfolding beside
   merge before n r after l =
-      let whole = gap before + n + gap after in
+      let b = beside before (l .index) in
+      let a = beside after (b .index) in
+      let whole = b .added + n + a .added in
       record {
-        line = reverseAux (past before) (free whole r ∷ past after);
-        index = E .enter whole r (unlist after (unlist before (l .index)));
-        pile = owed after ++ (owed before ++ l .pile);
+        line = reverseAux (b .rest) (free whole r ∷ a .rest);
+        index = E .enter whole r (a .index);
+        pile = a .owed ++ (b .owed ++ l .pile);
       }
 
   unfoldable pub giveBack : Ledger (E .Index) → Option Spot → Answer × Ledger (E .Index)

@@ -3,9 +3,10 @@
 -- those that speak of every count. Assumes nothing.
 use mathlib.Core.Path.{_≡_}
 use Prim.Native.Nat.{ℕ, _≤_}
-use mathlib.Core.List.{List, [], _∷_}
-use Rattle.ledger.specs.Ledger.{by-class, Stacks, Ledger, Answer, granted, done, length-is, refused, live, free, setup, take, report}
-use Rattle.ledger.specs.Calls.{Call, Take, HandBack, SizeOf, Report, Reset, answer, end, answers, log}
+use mathlib.Core.List.{List, [], _∷_, map}
+use Rattle.ledger.specs.Ledger.{by-class, Stacks, Ledger, Answer, granted, done, length-is, reported, refused, live, free, setup, take, report}
+use Rattle.ledger.specs.Calls.{Call, Take, HandBack, SizeOf, Report, FullReport, Reset, Event, event, answer, end, answers, log}
+use Rattle.ledger.specs.Figures.{refusalOf, inARow, figuresOf}
 use Rattle.ledger.specs.Stretch.{Stretch}
 use Rattle.ledger.specs.Claims.{Reached}
 
@@ -98,10 +99,31 @@ pub record ZeroLength : Type 0 where
   -- "a live one between two free regions keeps them from merging"
   pub kept-apart : end by-class 100 6 (Take 20 ∷ Take 0 ∷ HandBack 0 ∷ []) (setup by-class 100 6) .line ≡ free 20 0 ∷ live 0 1 ∷ free 80 2 ∷ []
 
+-- ---- numbers and figures, of each kind of call, answered and refused
+abbrev pub numberAndFigures : Event → ℕ × List ℕ
+numberAndFigures (event c a) = (refusalOf a, figuresOf c a)
+
+pub record FigureRows : Type 0 where
+  pub in-a-run : map numberAndFigures (log by-class 100 6
+      (Take 20 ∷ Take 30 ∷ Take 49 ∷ SizeOf 1 ∷ SizeOf 9 ∷ Report ∷ HandBack 1 ∷ HandBack 1 ∷ Reset ∷ []) (setup by-class 100 6))
+      ≡ (0, 0 ∷ 0 ∷ []) ∷ (0, 20 ∷ 1 ∷ []) ∷ (4, 0 ∷ 0 ∷ []) ∷ (0, 30 ∷ []) ∷ (5, 0 ∷ []) ∷ (0, 50 ∷ 48 ∷ []) ∷ (0, []) ∷ (5, []) ∷ (0, []) ∷ []
+  -- the rows of a full report, each a value and a number
+  pub of-rows : inARow ((16, 3) ∷ (18, 5) ∷ []) ≡ 16 ∷ 3 ∷ 18 ∷ 5 ∷ []
+
 -- ---- demand 3 is not about nothing, and needs its 'last granted first'
 pub record StretchExamples : Type 0 where
   -- a stretch, with a refused take and a report in it
   pub a-stretch : Stretch [] (log by-class 100 6 (Take 20 ∷ Take 30 ∷ Take 99 ∷ HandBack 1 ∷ Report ∷ HandBack 0 ∷ []) (setup by-class 100 6))
+  -- a stretch with a take of 0 in it, each call that can be refused, with each number, and each question
+  pub all-kinds : Stretch [] (log by-class 100 4
+      (Take 0 ∷ SizeOf 0 ∷ HandBack 0
+      ∷ Take 20 ∷ Take 99 ∷ Take 30 ∷ Take 1 ∷ HandBack 2 ∷ SizeOf 9 ∷ Report ∷ FullReport ∷ HandBack 1 ∷ HandBack 0 ∷ [])
+      (setup by-class 100 4))
+  -- and its answers
+  pub all-kinds-answers : Answering 100 4
+      (Take 0 ∷ SizeOf 0 ∷ HandBack 0 ∷ Take 20 ∷ Take 99 ∷ Take 30 ∷ Take 1 ∷ HandBack 2 ∷ SizeOf 9 ∷ Report ∷ [])
+      (granted 0 0 ∷ length-is 0 ∷ done
+      ∷ granted 0 0 ∷ refused 4 ∷ granted 20 1 ∷ refused 3 ∷ refused 5 ∷ refused 5 ∷ reported 0 0 ∷ [])
   -- two spans handed back last granted first leave the ledger as it was; the later take has record 0
   pub in-order : Answering 100 6 (Take 20 ∷ Take 30 ∷ HandBack 1 ∷ HandBack 0 ∷ Take 40 ∷ [])
       (granted 0 0 ∷ granted 20 1 ∷ done ∷ done ∷ granted 0 0 ∷ [])

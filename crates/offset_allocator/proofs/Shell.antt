@@ -5,6 +5,7 @@ use Prim.Native.Nat.{ℕ}
 use Rattle.ledger.specs.Ledger.{Answer}
 use Rattle.ledger.specs.Calls.{Call}
 use Rattle.tables.specs.Words.{Words}
+use Rattle.tables.specs.Setup.{Lent}
 use Rattle.tables.specs.Calls.{edition32}
 use Rattle.tables.specs.Promise.{Promise, SetupPromise}
 use Rattle.auditing.specs.Promise.{AuditPromise}
@@ -43,8 +44,8 @@ head-audited h {a = a} {ns = ns} {ps = ps} {scratch = scratch} {left = left} e p
     subst (λ (x : Totals). AuditPromise edition32 (wordsOf x (h .«bin_indices») (h .«used_bins») ns ps) scratch left a) e p
 
 -- the head that setup makes
-pub setup-out : {size count : ℕ} {nodes pile : List ℕ} {k : Head} {u : Totals} {a : Answer} {leaves heads ns ps : List ℕ}
-    → k ≡ headOf u leaves heads → SetupPromise edition32 size count nodes pile (wordsOf u heads leaves ns ps) a
-    → SetupPromise edition32 size count nodes pile (headWords k ns ps) a
-setup-out {size} {count} {nodes} {pile} {a = a} {ns = ns} {ps = ps} e p =
-    subst (λ (x : Head). SetupPromise edition32 size count nodes pile (headWords x ns ps) a) (sym e) p
+pub setup-out : {size count : ℕ} {lent : Lent} {k : Head} {u : Totals} {a : Answer} {leaves heads ns ps : List ℕ}
+    → k ≡ headOf u leaves heads → SetupPromise edition32 size count lent (wordsOf u heads leaves ns ps) a
+    → SetupPromise edition32 size count lent (headWords k ns ps) a
+setup-out {size} {count} {lent} {a = a} {ns = ns} {ps = ps} e p =
+    subst (λ (x : Head). SetupPromise edition32 size count lent (headWords x ns ps) a) (sym e) p

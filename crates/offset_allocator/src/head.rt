@@ -9,8 +9,8 @@ pub struct Head {
     pub free_storage: u32,
     pub free_offset: u32,
     pub used_bins_top: u32,
-    pub used_bins: [u8; 32],
-    pub bin_indices: [u32; 256],
+    pub used_bins: [u8; Head::NUM_TOP_BINS],
+    pub bin_indices: [u32; Head::NUM_LEAF_BINS],
 }
 
 impl Head {
@@ -18,7 +18,7 @@ impl Head {
 
     pub const BINS_PER_LEAF: usize = 8;
 
-    pub const NUM_LEAF_BINS: usize = 256;
+    pub const NUM_LEAF_BINS: usize = Head::NUM_TOP_BINS * Head::BINS_PER_LEAF;
 
     // The scalars of a head.
     pub fn totals(self) -> Totals
@@ -34,7 +34,11 @@ impl Head {
     }
 
     // A head from its scalars and its two arrays.
-    pub fn of(t: Totals, used_bins: [u8; 32], bin_indices: [u32; 256]) -> Head
+    pub fn of(
+        t: Totals,
+        used_bins: [u8; Head::NUM_TOP_BINS],
+        bin_indices: [u32; Head::NUM_LEAF_BINS],
+    ) -> Head
         ensures { λ h. ⌜ h ≡ headOf t «used_bins» «bin_indices» ⌝ }
     {
         Head {

@@ -1,5 +1,6 @@
 // Setup and reset, with the head by value.
 ghost use Rattle.ledger.specs.Calls.{Reset};
+ghost use Rattle.tables.specs.Setup.{tablesAlone};
 ghost use Rattle.tables.specs.Calls.{edition32};
 ghost use Rattle.tables.specs.Promise.{Promise, SetupPromise};
 ghost use Rattle.starting.specs.Answers.{answerOf};
@@ -21,7 +22,7 @@ impl Head {
         nodes: &mut [u32],
         free_nodes: &mut [u32],
     ) -> SetUp
-        ensures { λ s. ⌜ SetupPromise edition32 (size .0) «max_allocs» (now (nodes .entry)) (now («free_nodes» .entry))
+        ensures { λ s. ⌜ SetupPromise edition32 (size .0) «max_allocs» (tablesAlone (now (nodes .entry)) (now («free_nodes» .entry)))
             (headWords (s .head) (now (nodes .exit)) (now («free_nodes» .exit)))
             (answerOf (s .answer)) ⌝ }
     {
@@ -43,7 +44,7 @@ impl Head {
 
     // The same with the count of records that the Rust takes by default.
     pub fn new(size: Size, nodes: &mut [u32], free_nodes: &mut [u32]) -> SetUp
-        ensures { λ s. ⌜ SetupPromise edition32 (size .0) 131072 (now (nodes .entry)) (now («free_nodes» .entry))
+        ensures { λ s. ⌜ SetupPromise edition32 (size .0) 131072 (tablesAlone (now (nodes .entry)) (now («free_nodes» .entry)))
             (headWords (s .head) (now (nodes .exit)) (now («free_nodes» .exit)))
             (answerOf (s .answer)) ⌝ }
     {

@@ -1,12 +1,12 @@
--- What the definitions beside this file give a reader to rely on: a row that is written is read, and judged if it is one of classes; a row of the
--- list of runs agrees only with its own letter and last two numbers; and the tally of a list of classes adds up. One record, which
--- proofs/Facts.antt makes. Assumes nothing.
+-- What the definitions beside this file give a reader to rely on: a row that is written is read, and judged if it is one of classes; every row of
+-- numbers can be written; a row of the list of runs agrees only with its own letter and last two numbers; and the tally of a list of classes adds up.
+-- One record, which proofs/Facts.antt makes. Assumes nothing.
 use Prim.Native.Nat.{ℕ, _+_, _*_, _^_, _≤_, _<_}
 use mathlib.Core.Path.{_≡_}
 use mathlib.Core.Logic.{_↔_}
 use mathlib.Core.Bool.{true}
 use mathlib.Core.List.{List, [], _∷_, _++_}
-use lib.ListN.{length}
+use lib.ListN.{length, getD}
 use Rattle.replay.specs.declared.rows.State.the-variants.{Within}
 use Rattle.replay.specs.declared.rows.Reader.{Reader}
 use Rattle.replay.specs.declared.tally.Tally.{Tally}
@@ -32,6 +32,15 @@ pub data Numbers : List ℕ → List ℕ → Type 0 where
       → Decimal number n
       → n < 2 ^ 32
       → Numbers (text ++ (32 ∷ number)) (ns ++ (n ∷ []))
+
+-- a number has a text; a row of numbers has one
+pub record Written (n : ℕ) : Type 0 where
+  pub text : List ℕ
+  pub decimal : Decimal text n
+
+pub record RowWritten (ns : List ℕ) : Type 0 where
+  pub text : List ℕ
+  pub numbers : Numbers text ns
 
 -- a row with a number more: the last is d, the one before it c
 abbrev pub withNumber : Reader → ℕ → Reader
@@ -63,6 +72,9 @@ pub record ListFacts : Type 0 where
       → Numbers text ns
       → length ns ≤ 4
       → fedAll r (rowText letter text) ≡ rowRead letter ns
+  -- and these are rows enough: every number can be written so, and every row of numbers of 32 bits
+  pub number-written : (n : ℕ) → Written n
+  pub row-written : (ns : List ℕ) → ((i : ℕ) → i < length ns → getD ns i 0 < 2 ^ 32) → RowWritten ns
   -- and the row is judged, once
   pub row-judged : (p : Replay) (letter : ℕ) {text ns : List ℕ}
       → endsWell (p .reader .state) ≡ true
@@ -74,5 +86,8 @@ pub record ListFacts : Type 0 where
       ≡ record { reader = rowRead letter ns; tally = counted (p .tally) (rowVerdict (rowRead letter ns)) }
   -- a row of the list of runs agrees with one letter and two numbers alone
   pub agrees-only : (r : Reader) (s : Said) → callVerdict r s ≡ Agrees → (r .letter ≡ s .letter) × (r .c ≡ s .c) × (r .d ≡ s .d)
+  -- a tally that adds up and names no row hides none: all its rows agreed or are listed; and where they all do, it names none
+  pub hides-none : (t : Tally) → AddsUp t → t .first ≡ 0 → t .agreed + t .listed ≡ t .rows
+  pub names-none : (t : Tally) → AddsUp t → t .agreed + t .listed ≡ t .rows → t .first ≡ 0
   -- no counter is full at the end of a list that a machine can hold
   pub adds-up : (bytes : List ℕ) → length bytes < 2 ^ 64 → AddsUp (afterBytes noBytes bytes .tally)

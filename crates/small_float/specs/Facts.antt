@@ -1,9 +1,10 @@
 -- What document 01 says of size classes, and what the layers above rely on: one record, which proofs/Facts.antt makes.
 -- Each fact is over all numbers, or over those that the sentence names. Assumes nothing.
+use mathlib.Core.Path.{_≡_}
 use Prim.Native.Nat.{ℕ, _-_, _*_, _^_, _≤_, _<_}
 use mathlib.Core.Logic.{_↔_}
 use Rattle.basics.specs.Extreme.{Greatest, Least}
-use Rattle.small_float.specs.Class.{down, up, value, greatestServed}
+use Rattle.small_float.specs.Class.{down, up, value, shownValue, greatestServed}
 
 -- a store of n units, fresh, serves an object of s units: its one region's class reaches the request's
 abbrev pub Serves : ℕ → ℕ → Type 0
@@ -16,6 +17,8 @@ pub record ClassFacts : Type 0 where
   -- "Down(s) is the greatest class whose value is at most s, up(s) the least whose value is at least s."
   pub down-greatest : (s : ℕ) → Greatest (λ c. value c ≤ s) (down s)
   pub up-least : (s : ℕ) → Least (λ c. s ≤ value c) (up s)
+  -- so a class is at most down(s) exactly if its value is at most s
+  pub down-reaches : (s c : ℕ) → (c ≤ down s) ↔ (value c ≤ s)
   -- "For s from 8 to 4,026,531,840 the value of up(s) exceeds s by less than s / 8."
   pub up-near : (s : ℕ) → 8 ≤ s → s ≤ greatestServed → 8 * (value (up s) - s) < s
   -- a higher class has a higher value
@@ -25,5 +28,9 @@ pub record ClassFacts : Type 0 where
   pub reaches : (s c : ℕ) → (up s ≤ c) ↔ (s ≤ value c)
   -- the value of up(s) is the least store that serves s, and it is a store up to 4,026,531,840; above, no store serves s
   pub smallest : (s : ℕ) → Least (λ n. Serves n s) (value (up s))
+  pub serves-exactly : (n s : ℕ) → Serves n s ↔ (value (up s) ≤ n)
   pub smallest-fits : (s : ℕ) → s ≤ greatestServed → value (up s) < 2 ^ 32
   pub none-serves : (s n : ℕ) → greatestServed < s → n < 2 ^ 32 → ¬ Serves n s
+  -- the value that is shown of a class: its own up to 239, 0 from 240 on
+  pub shown-own : (c : ℕ) → c ≤ 239 → shownValue c ≡ value c
+  pub shown-none : (c : ℕ) → 240 ≤ c → shownValue c ≡ 0

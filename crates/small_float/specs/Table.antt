@@ -2,7 +2,8 @@
 -- Assumes nothing.
 use mathlib.Core.Path.{_≡_}
 use Prim.Native.Nat.{ℕ}
-use mathlib.Core.List.{List, [], _∷_, map}
+use mathlib.Core.List.{List, [], _∷_, _++_, map}
+use lib.ListN.{length}
 use Rattle.small_float.specs.Class.{down, up}
 
 abbrev pub Row : Type 0
@@ -31,3 +32,9 @@ rowOf r = (r .0, down (r .0), up (r .0))
 -- the one claim: every row is what its size gives
 abbrev pub RowsAreRight : Type 0
 RowsAreRight = map rowOf rowsMarkedP ≡ rowsMarkedP
+
+-- told from the other side: the rows are twelve, and of each the second number is its size's class rounded down, the third the class rounded up
+pub record RowByRow : Type 0 where
+  pub twelve : length rowsMarkedP ≡ 12
+  pub each : (before after : List Row) (size second third : ℕ) → rowsMarkedP ≡ before ++ ((size, second, third) ∷ after)
+      → (second ≡ down size) × (third ≡ up size)

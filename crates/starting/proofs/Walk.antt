@@ -8,7 +8,7 @@ use Rattle.ledger.specs.Calls.{Reset}
 use Rattle.tables.specs.Words.{Words}
 use Rattle.tables.specs.Gate.{gate, gateOf, gated}
 use Rattle.tables.specs.Steps.{insert, popPile}
-use Rattle.tables.specs.Setup.{blank, fresh, zeros, setupWords, resetWords}
+use Rattle.tables.specs.Setup.{Lent, blank, fresh, zeros, setupWords, resetWords}
 use Rattle.tables.specs.Calls.{edition32, answerWords}
 use Rattle.tables.specs.Reach.{Room}
 use Rattle.tables.proofs.Gate.{gated-open, gated-shut, open-has-room}
@@ -35,24 +35,24 @@ refuses NoRegion w o = gated-shut 4 3 w o refl
 refuses NotLive w o = gated-shut 5 4 w o refl
 refuses Unsound w o = gated-shut 6 5 w o refl
 
-module _ (size count : ℕ) (nodes pile : List ℕ) where
+module _ (size count : ℕ) (lent : Lent) where
   abbrev tested : ℕ
-  tested = gate edition32 1 count (length nodes) (length pile)
+  tested = gate edition32 1 count (length (lent .nodes)) (length (lent .pile))
 
   pub setup-shut : {g : Gate} {why : Refusal} → gateNumber g ≡ tested → g ≡ Shut why
-      → (refused (numberOf why), zeros nodes pile) ≡ setupWords edition32 size count nodes pile
+      → (refused (numberOf why), zeros lent) ≡ setupWords edition32 size count lent
   unfolding setupWords
   setup-shut {why = why} e f =
-      sym (refuses why (zeros nodes pile) _)
-      ∙ ap (λ (n : ℕ). gated n (zeros nodes pile) (done, fresh edition32 size count nodes pile)) (sym (ap gateNumber f) ∙ e)
+      sym (refuses why (zeros lent) _)
+      ∙ ap (λ (n : ℕ). gated n (zeros lent) (done, fresh edition32 size count (lent .nodes) (lent .pile))) (sym (ap gateNumber f) ∙ e)
 
-  pub setup-room : {g : Gate} → gateNumber g ≡ tested → g ≡ Open → Room edition32 count (length nodes) (length pile)
-  setup-room e f = open-has-room edition32 0 count (length nodes) (length pile) (sym e ∙ ap gateNumber f)
+  pub setup-room : {g : Gate} → gateNumber g ≡ tested → g ≡ Open → Room edition32 count (length (lent .nodes)) (length (lent .pile))
+  setup-room e f = open-has-room edition32 0 count (length (lent .nodes)) (length (lent .pile)) (sym e ∙ ap gateNumber f)
 
-  pub setup-open : {g : Gate} {v : Words} → gateNumber g ≡ tested → g ≡ Open → v ≡ fresh edition32 size count nodes pile
-      → (done, v) ≡ setupWords edition32 size count nodes pile
+  pub setup-open : {g : Gate} {v : Words} → gateNumber g ≡ tested → g ≡ Open → v ≡ fresh edition32 size count (lent .nodes) (lent .pile)
+      → (done, v) ≡ setupWords edition32 size count lent
   unfolding setupWords
-  setup-open e f h = ap (λ (w : Words). (done, w)) h ∙ sym (gated-open tested (zeros nodes pile) _ (sym e ∙ ap gateNumber f))
+  setup-open e f h = ap (λ (w : Words). (done, w)) h ∙ sym (gated-open tested (zeros lent) _ (sym e ∙ ap gateNumber f))
 
 -- ---- reset, behind an open gate
 pub reset-open : (w : Words) {v : Words} → gateOf edition32 w ≡ 0 → v ≡ fresh edition32 (w .size) (w .count) (w .nodes) (w .pile)

@@ -6,7 +6,7 @@ ghost use lib.ListN.{length};
 ghost use Rattle.ledger.specs.Ledger.{refused};
 ghost use Rattle.ledger.specs.Calls.{Reset};
 ghost use Rattle.tables.specs.Steps.{insert};
-ghost use Rattle.tables.specs.Setup.{fresh, zeros};
+ghost use Rattle.tables.specs.Setup.{fresh, lentOf, zeros};
 ghost use Rattle.tables.specs.Calls.{edition32};
 ghost use Rattle.tables.specs.Promise.{Promise, SetupPromise};
 ghost use Rattle.answers.specs.Refusals.{numberOf};
@@ -82,13 +82,12 @@ fn start_afresh(
     one_region(bin_indices, used_bins, nodes, t, size)
 }
 
-// A refused setup leaves a head of zeros, whose count of 0 makes every later call on it a refusal.
-fn leave_zeros(why: Refusal, bin_indices: &mut [u32; 256], used_bins: &mut [u8; 32]) -> Started
+// A refused setup gives totals of zeros, whose count of 0 makes every later call on them a refusal. It changes nothing that it was lent: the two arrays
+// are handed on to here so that this is said where it could be broken.
+fn leave_all(why: Refusal, bin_indices: &mut [u32; 256], used_bins: &mut [u8; 32]) -> Started
     ensures { λ s. ⌜ ((nodes pile : List ℕ) → outcomeOf s (now («bin_indices» .exit)) (now («used_bins» .exit)) nodes pile
-        ≡ (refused (numberOf why), zeros nodes pile)) ⌝ }
+        ≡ (refused (numberOf why), zeros (lentOf (now («bin_indices» .entry)) (now («used_bins» .entry)) nodes pile))) ⌝ }
 {
-    fill::clear_bin_indices(bin_indices, 0);
-    fill::clear_used_bins(used_bins);
     let zeros = Totals {
         size: 0,
         max_allocs: 0,
@@ -102,6 +101,13 @@ fn leave_zeros(why: Refusal, bin_indices: &mut [u32; 256], used_bins: &mut [u8; 
     }
 }
 
+// The units of a size: a 32-bit number, as its type says.
+fn units_of(size: Size) -> u32
+    ensures { λ n. ⌜ n ≡ size .0 ⌝ }
+{
+    size.0
+}
+
 // A store of this size, all of it free, with this many records.
 pub fn with_max_allocs(
     size: Size,
@@ -111,22 +117,17 @@ pub fn with_max_allocs(
     nodes: &mut [u32],
     free_nodes: &mut [u32],
 ) -> Started
-    ensures { λ s. ⌜ SetupPromise edition32 (size .0) «max_allocs» (now (nodes .entry)) (now («free_nodes» .entry))
+    ensures { λ s. ⌜ SetupPromise edition32 (size .0) «max_allocs»
+        (lentOf (now («bin_indices» .entry)) (now («used_bins» .entry)) (now (nodes .entry)) (now («free_nodes» .entry)))
         (wordsOf (s .totals) (now («bin_indices» .exit)) (now («used_bins» .exit)) (now (nodes .exit)) (now («free_nodes» .exit)))
         (answerOf (s .answer)) ⌝ }
 {
+    let units = units_of(size);
     match bins::gate::test(max_allocs, nodes, free_nodes, Refusal::BadCount) {
-        Gate::Shut(why) => leave_zeros(why, bin_indices, used_bins),
+        Gate::Shut(why) => leave_all(why, bin_indices, used_bins),
         Gate::Open => Started {
             answer: StartAnswer::Done,
-            totals: start_afresh(
-                size.0,
-                max_allocs,
-                bin_indices,
-                used_bins,
-                nodes,
-                free_nodes,
-            ),
+            totals: start_afresh(units, max_allocs, bin_indices, used_bins, nodes, free_nodes),
         },
     }
 }
@@ -139,7 +140,8 @@ pub fn new(
     nodes: &mut [u32],
     free_nodes: &mut [u32],
 ) -> Started
-    ensures { λ s. ⌜ SetupPromise edition32 (size .0) 131072 (now (nodes .entry)) (now («free_nodes» .entry))
+    ensures { λ s. ⌜ SetupPromise edition32 (size .0) 131072
+        (lentOf (now («bin_indices» .entry)) (now («used_bins» .entry)) (now (nodes .entry)) (now («free_nodes» .entry)))
         (wordsOf (s .totals) (now («bin_indices» .exit)) (now («used_bins» .exit)) (now (nodes .exit)) (now («free_nodes» .exit)))
         (answerOf (s .answer)) ⌝ }
 {

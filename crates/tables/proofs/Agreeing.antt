@@ -11,7 +11,7 @@ use Rattle.basics.specs.Sum.{one}
 use Rattle.basics.proofs.Decided.{Same, same, differ, same?}
 use Rattle.small_float.specs.Class.{down}
 use Rattle.tables.specs.Layout.{pick, dataSize, binPrev, binNext, used, word, put, putLink, nodesNeeded, pileNeeded}
-use Rattle.tables.specs.Words.{Words, Bounds, withNodes, withTotal}
+use Rattle.tables.specs.Words.{Words, Bounds, withNodes, withTables, withTotal}
 use Rattle.tables.specs.Steps.{insertNodes, joinNodes, insertAt, insert, unlinkAt, unlink, pushPile, popPile}
 use Rattle.tables.specs.Setup.{wiped, piled}
 use Rattle.tables.specs.HandBack.{dropIf}
@@ -49,19 +49,6 @@ unfolding word
 word-agree n A f r f8 l = A .same (8 * r + f) (omega arith)
 
 -- ---- words: those that agree with w are w with other tables, so that all that is read of the head is the same by computation
-abbrev pub withTables : Words → (nodes pile : List ℕ) → Words
-withTables w nodes pile = record {
-  size = w .size;
-  count = w .count;
-  total = w .total;
-  off = w .off;
-  top = w .top;
-  leaves = w .leaves;
-  heads = w .heads;
-  nodes = nodes;
-  pile = pile;
-}
-
 pub tables-agree : (n : ℕ) (w : Words) {nodes pile : List ℕ} → AgreeOn (nodesNeeded n) (w .nodes) nodes
     → AgreeOn (pileNeeded n) (w .pile) pile → Agree n w (withTables w nodes pile)
 tables-agree n w N P = record {

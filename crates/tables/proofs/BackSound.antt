@@ -11,7 +11,7 @@ use Rattle.basics.specs.Sum.{one, is, tally}
 use Rattle.basics.proofs.Sums.{tally-le, tally-reverseAux}
 use Rattle.small_float.proofs.Rounding.{down-most}
 use Rattle.ledger.specs.Ledger.{Ledger, Region, live, free, len, freeLen, stands, Answer, done, length-is, by-class, Stacks}
-use Rattle.ledger.specs.Ledger.{handBack, merge, gap, owed, past, unlist}
+use Rattle.ledger.specs.Ledger.{handBack, merge, Side, beside}
 use Rattle.ledger.specs.WellFormed.{WellFormed, has}
 use Rattle.ledger.proofs.Places.{Between, sum-at}
 use Rattle.ledger.proofs.Find.{at}
@@ -38,11 +38,12 @@ free-most (live n r) = omega arith
 free-most (free n r) = omega arith
 
 -- what a side loses to the region is free
-side-free : (side : List Region) → tally freeLen side ≡ tally freeLen (past side) + gap side
-unfolding past gap
-side-free [] = refl
-side-free (live n r ∷ rest) = omega arith
-side-free (free n r ∷ rest) = omega arith
+side-free : (side : List Region) (stacks : Stacks)
+    → tally freeLen side ≡ tally freeLen (beside by-class side stacks .rest) + beside by-class side stacks .added
+unfolding beside
+side-free [] stacks = refl
+side-free (live n r ∷ rest) stacks = omega arith
+side-free (free n r ∷ rest) stacks = omega arith
 
 module _ (E : Edition) (w : Words) (l : Ledger Stacks) (S : Sound E w l) (r : ℕ) where
   module _ (n : ℕ) (before after : List Region) (place : Between before (live n r) after (l .line)) where
@@ -86,35 +87,41 @@ module _ (E : Edition) (w : Words) (l : Ledger Stacks) (S : Sound E w l) (r : �
       );
     }
 
-    -- the neighbours
+    -- the two sides as the ledger reads them, and the neighbours
+    abbrev b-side : Side Stacks
+    b-side = beside by-class before (l .index)
+
+    abbrev a-side : Side Stacks
+    a-side = beside by-class after (b-side .index)
+
     abbrev p : ℕ
     p = last (E .none) (recs (reverse before))
 
     abbrev x : ℕ
     x = first (recs after) (E .none)
 
-    B : SideBefore E w r n before after (l .index) (l .pile) p
+    B : SideBefore E w r n before after b-side (l .pile) p
     B = side-before E w r n before after (l .index) (l .pile) own-gap (λ d q. omega (arith, held d q)) (omega (arith, reads .1 .0))
 
     abbrev v : Words
     v = dropIf (bounds E w) (opens before) p w
 
-    A : SideAfter E w r n v (reverse (past before)) after (unlist by-class before (l .index)) (owed before ++ l .pile) (gap before + n) x
-    A = side-after E w r n v (reverse (past before)) after (0 + tally len (reverse before) + n)
-        (unlist by-class before (l .index)) (owed before ++ l .pile)
-        (gap before + n) (B .gap-is)
+    A : SideAfter E w r n v (reverse (b-side .rest)) after a-side (b-side .owed ++ l .pile) (b-side .added + n) x
+    A = side-after E w r n v (reverse (b-side .rest)) after (0 + tally len (reverse before) + n)
+        (b-side .index) (b-side .owed ++ l .pile)
+        (b-side .added + n) (B .gap-is)
         (λ d q. omega (arith, held d q, side-stands (l .index) before (λ c i. omega (arith, held c i)) d q)) (reads .1 .3) (chain .1 .2)
 
     -- ---- so the plan finds what the ledger says of the merged region
     abbrev whole : ℕ
-    whole = gap before + n + gap after
+    whole = b-side .added + n + a-side .added
 
     abbrev merged : Merged
     merged = record {
       length = whole;
-      start = tally len (reverse (past before));
-      before = last (E .none) (recs (reverse (past before)));
-      after = first (recs (past after)) (E .none);
+      start = tally len (reverse (b-side .rest));
+      before = last (E .none) (recs (reverse (b-side .rest)));
+      after = first (recs (a-side .rest)) (E .none);
       total = w .total + n;
     }
 
@@ -135,12 +142,12 @@ module _ (E : Edition) (w : Words) (l : Ledger Stacks) (S : Sound E w l) (r : �
 
       -- its numbers are within their limits, the ledger after it being in order
       next-sum : (f : Region → ℕ)
-          → tally f (merge by-class before n r after l .line) ≡ tally f (past before) + (f (free whole r) + tally f (past after))
+          → tally f (merge by-class before n r after l .line) ≡ tally f (b-side .rest) + (f (free whole r) + tally f (a-side .rest))
       unfolding merge
-      next-sum f = tally-reverseAux f (past before) (free whole r ∷ past after)
+      next-sum f = tally-reverseAux f (b-side .rest) (free whole r ∷ a-side .rest)
 
       total-is : w .total + n ≡ tally freeLen (merge by-class before n r after l .line)
-      total-is = omega (arith, S .sum, sum-at place freeLen, next-sum freeLen, side-free before, side-free after)
+      total-is = omega (arith, S .sum, sum-at place freeLen, next-sum freeLen, side-free before (l .index), side-free after (b-side .index))
 
       whole-most : whole ≤ w .size
       whole-most = omega (arith, next-well .lined .cover, next-sum len)
@@ -154,10 +161,10 @@ module _ (E : Edition) (w : Words) (l : Ledger Stacks) (S : Sound E w l) (r : �
         S .spares,
         all-records (next-well .lined),
         next-well .lined .some-region,
-        length-append (owed after) (owed before ++ l .pile),
-        length-append (owed before) (l .pile),
-        one-owed before,
-        one-owed after,
+        length-append (a-side .owed) (b-side .owed ++ l .pile),
+        length-append (b-side .owed) (l .pile),
+        one-owed before (l .index),
+        one-owed after (b-side .index),
       )
 
       plan-is : planBack w r ≡ BackPlan.merge p x (opens before) (opens after) merged
@@ -194,9 +201,9 @@ module _ (E : Edition) (w : Words) (l : Ledger Stacks) (S : Sound E w l) (r : �
           (unfold insert insertAt in drop-size (opens after) x v ∙ drop-size (opens before) p w)
           (unfold insert insertAt in drop-count (opens after) x v ∙ drop-count (opens before) p w)
           (S .count-low) (S .count-high) (S .size-fits) next-well
-          (rw (reverseAux-eq (past before) (free whole r ∷ past after))
-          (placed (bounds E w) u (reverse (past before)) (past after) (unlist by-class after (unlist by-class before (l .index)))
-          (owed after ++ (owed before ++ l .pile))
+          (rw (reverseAux-eq (b-side .rest) (free whole r ∷ a-side .rest))
+          (placed (bounds E w) u (reverse (b-side .rest)) (a-side .rest) (a-side .index)
+          (a-side .owed ++ (b-side .owed ++ l .pile))
           r whole (merged .start) (merged .before) (merged .after) (A .gap-is)
           (omega (arith, down-most whole (omega (arith, whole-most, S .size-fits)))) refl refl refl))
           total-is

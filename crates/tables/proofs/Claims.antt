@@ -2,11 +2,13 @@
 use Rattle.tables.specs.Words.{Edition}
 use Rattle.tables.specs.Claims.{Claims}
 use Rattle.tables.proofs.Refusals.{setup-1, setup-2, setup-done, setup-refused, call-6, call-2, not-2}
+use Rattle.tables.proofs.Refusals.{take-3, back-5, size-5, numbers, setup-numbers}
 use Rattle.tables.proofs.Kept.{refused-kept, grant-inside}
 use Rattle.tables.proofs.NotWritten.{not-written}
-use Rattle.tables.proofs.SetupLeaves.{setup-leaves, setup-pile-leaves, reset-leaves}
-use Rattle.tables.proofs.Unread.{not-read}
-use Rattle.tables.proofs.Circular.{circular-6}
+use Rattle.tables.proofs.SetupLeaves.{setup-leaves, setup-pile-leaves, setup-lengths, reset-leaves}
+use Rattle.tables.proofs.SetupWrites.{setup-fixed, setup-pile-fixed}
+use Rattle.tables.proofs.Unread.{not-read, setup-not-read}
+use Rattle.tables.proofs.Circular.{circular-6, circular-exactly}
 use Rattle.tables.proofs.Search.{search-finds, highest-found}
 use Rattle.tables.proofs.SetupSound.{setup-sound, reset-sound}
 use Rattle.tables.proofs.OneLedger.{one-ledger}
@@ -21,11 +23,19 @@ claims E = record {
   setup-sound = setup-sound E;
   setup-leaves = setup-leaves E;
   setup-pile-leaves = setup-pile-leaves E;
+  setup-lengths = setup-lengths E;
+  setup-fixed = setup-fixed E;
+  setup-pile-fixed = setup-pile-fixed E;
   reset-leaves = reset-leaves E;
   reset-sound = reset-sound E;
   call-6 = call-6 E;
   call-2 = call-2 E;
   not-2 = not-2 E;
+  take-3 = take-3 E;
+  back-5 = back-5 E;
+  size-5 = size-5 E;
+  numbers = numbers E;
+  setup-numbers = setup-numbers E;
   call-sound = call-sound E;
   never-6 = never-6 E;
   one-ledger = one-ledger E;
@@ -33,8 +43,10 @@ claims E = record {
   refused-kept = refused-kept E;
   grant-inside = grant-inside E;
   circular-6 = circular-6 E;
+  circular-exactly = circular-exactly E;
   not-written = not-written E;
   not-read = not-read E;
+  setup-not-read = setup-not-read E;
   search-finds = search-finds E;
   highest-found = highest-found E;
   demand-2 = demand-2 E;

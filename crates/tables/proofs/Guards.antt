@@ -12,7 +12,7 @@ use Rattle.basics.proofs.Decided.{Same, same, differ, same?, Below, below, beyo
 use Rattle.small_float.specs.Class.{up}
 use Rattle.tables.specs.Layout.{pick, dataOffset, dataSize, neighborPrev, neighborNext, used, word}
 use Rattle.tables.specs.Words.{Words}
-use Rattle.tables.specs.Search.{noClass, findClass}
+use Rattle.tables.specs.Search.{Found, class-is, no-class, bad-bits, findClass}
 use Rattle.tables.specs.Take.{planSpare, planRegion, planRecord, planClass, planTake}
 use Rattle.tables.specs.HandBack.{BackPlan, Merged, isLive, isFree, mergedOf, planMerged, planSides, planNeighbours, planBack}
 use Rattle.tables.specs.Guards.{TakeGuards, BackGuards}
@@ -53,14 +53,15 @@ module _ (w : Words) (s : ℕ) (spare : 1 ≤ w .off) where
       go (below a e) = rw e (region-guards c r (word (w .nodes) dataSize r) (word (w .nodes) dataOffset r) h a)
       go (beyond a e) = rw e tt
 
-  class-guards : (c : ℕ) → TakeGuards w s (planClass w s c)
+  class-guards : (found : Found) → TakeGuards w s (planClass w s found)
   unfolding planClass
-  class-guards c = go (same? c noClass) (below? noClass c)
+  class-guards (class-is c) = go (below? c 256)
     where
-      go : Same c noClass → Below noClass c → TakeGuards w s (planClass w s c)
-      go (same a e) b = rw e tt
-      go (differ a e) (below b f) = rw (e, f) tt
-      go (differ a e) (beyond b f) = rw (e, f) (record-guards c (getD (w .heads) c 0) (omega arith))
+      go : Below c 256 → TakeGuards w s (planClass w s (class-is c))
+      go (below a e) = rw e (record-guards c (getD (w .heads) c 0) a)
+      go (beyond a e) = rw e tt
+  class-guards no-class = tt
+  class-guards bad-bits = tt
 
 pub take-guards : (w : Words) (s : ℕ) → TakeGuards w s (planTake w s)
 unfolding planTake

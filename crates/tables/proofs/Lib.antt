@@ -1,13 +1,13 @@
 -- Proofs of what specs/ claims of the words, in the order of the argument.
 -- Answers: the rows of specs/Examples, computed.
 -- Fields, Written: what a word is after a write, and after each step. Gate, PlanEnds, Guards: what comes before a commit.
--- Any words at all: Refusals, Kept; Untouched, NotWritten, SetupLeaves: what is not written; Agreeing, Unread: what is not read; Circular.
+-- Any words at all: Refusals, Kept; Untouched, NotWritten, SetupLeaves: what is not written; Agreeing, Unread: what is not read; ReachMeans; Circular.
 -- Linked, Lines: runs of records, and the line in them. Masks, MaskEnds, Bits: the two levels of bits. Spares: the pile.
 -- Shelf: class lists, pile and bits together; Insert, Remove, Steps: what the steps make of them.
 -- Place: how a free region comes to be. SoundOf: sound words as a shelf and a line, and back.
--- Search; Grant, TakeSound; Merge, Sides, SizeSound, BackSound; Wiped, SetupSound; ReportSound, FullReportSound: call by call.
+-- Search; Grant, TakeSound; Merge, Sides, SizeSound, BackSound; Wiped, SetupSound, SetupWrites; ReportSound, FullReportSound: call by call.
 -- OneLedger: what sound words stand for is one ledger. Runs: any call, and runs of calls.
--- Claims: the record. Promise: what a call promises follows from its being the model's.
+-- Given: rows that speak of every call, size or table. Claims: the record. Promise: what a call promises follows from its being the model's.
 pub mod Answers
 pub mod Fields
 pub mod Written
@@ -22,6 +22,7 @@ pub mod NotWritten
 pub mod SetupLeaves
 pub mod Agreeing
 pub mod Unread
+pub mod ReachMeans
 pub mod Circular
 pub mod Linked
 pub mod Lines
@@ -43,9 +44,11 @@ pub mod Sides
 pub mod SizeSound
 pub mod BackSound
 pub mod SetupSound
+pub mod SetupWrites
 pub mod ReportSound
 pub mod FullReportSound
 pub mod OneLedger
 pub mod Runs
+pub mod Given
 pub mod Claims
 pub mod Promise

@@ -1,7 +1,7 @@
 -- The lowest set bit of a mask from a place on, and its highest, as the machine's counts of zeros find them. Assumes nothing.
 use mathlib.Core.Path.{_≡_, refl, ap, sym, _∙_, subst}
 use Prim.Native.Nat.{ℕ, zero, suc, _+_, _*_, _-_, _/_, _%_, _^_, _≤_, _<_}
-use native.Mathlib.Nat.{div-one, div-eq-of-lt}
+use native.Mathlib.Nat.{div-one, div-eq-of-lt, pow-suc}
 use native.Mathlib.Omega.{arith}
 use lib.Dec.{eqb}
 use lib.Pow.{pow-pos, pow-mono, shr-shr}
@@ -136,3 +136,17 @@ highest-bit k f l b h =
       | beyond g e ↦ absurd (omega (arith, top .2, mask-below k f b, pow-mono {i = k} {j = top .0} g))
     ] in
     subst (Highest k f) counted record { low = low; is-set = bounded .0; none-higher = bounded .1 }
+
+-- ---- a number below 2 ^ j that is not 0 has fewer than j trailing zeros, however many bits are counted
+half-below : (n x : ℕ) → n < x * 2 → n / 2 < x
+half-below n x h = omega arith
+
+pub trailing-below : (j k n : ℕ) → j ≤ k → 1 ≤ n → n < 2 ^ j → trailingZeros k n < j
+unfolding trailingZeros
+trailing-below zero k n h one small = absurd (omega arith)
+trailing-below (suc j) zero n h one small = absurd (omega arith)
+trailing-below (suc j) (suc k) n h one small = go (n % 2) refl (trailing-below j k (n / 2) (omega arith))
+  where
+    go : (d : ℕ) → n % 2 ≡ d → (1 ≤ n / 2 → n / 2 < 2 ^ j → trailingZeros k (n / 2) < j) → under d (trailingZeros k (n / 2)) < suc j
+    go zero e later = omega (arith, later (omega arith) (half-below n (2 ^ j) (subst (λ (x : ℕ). n < x) (pow-suc 2 j) small)))
+    go (suc d) e later = omega arith

@@ -10,7 +10,7 @@ use Rattle.ledger.specs.Ledger.{Answer, refused}
 use Rattle.tables.specs.Layout.{pick, dataOffset, dataSize, neighborPrev, neighborNext, word}
 use Rattle.tables.specs.Words.{Words}
 use Rattle.tables.specs.Gate.{gated}
-use Rattle.tables.specs.Search.{noClass, findClass}
+use Rattle.tables.specs.Search.{Found, class-is, no-class, bad-bits, findClass}
 use Rattle.tables.specs.Take.{TakePlan, whole, split, planSpare, planRegion, planRecord, planClass, planTake}
 use Rattle.tables.specs.HandBack.{BackPlan, merge, Merged, isLive, isFree, mergedOf, planMerged, planSides, planNeighbours, planBack}
 
@@ -27,7 +27,8 @@ gated-ends P zero w o shut opened = opened refl
 gated-ends P (suc g) w o shut opened = shut g
 
 -- ---- take
-module _ (w : Words) (s : ℕ) (P : TakePlan → Type 0) (at-3 : P (TakePlan.stop 3)) (at-4 : P (TakePlan.stop 4)) (at-6 : P (TakePlan.stop 6))
+-- once there are spares, it does not stop with 3
+module _ (w : Words) (s : ℕ) (P : TakePlan → Type 0) (at-4 : P (TakePlan.stop 4)) (at-6 : P (TakePlan.stop 6))
     (at-whole : (c r o : ℕ) → P (whole c r o)) (at-split : (c r o rest m : ℕ) → P (split c r o rest m)) where
   spare-ends : (c r o rest m : ℕ) → P (planSpare w c r o rest m)
   unfolding planSpare
@@ -47,16 +48,21 @@ module _ (w : Words) (s : ℕ) (P : TakePlan → Type 0) (at-3 : P (TakePlan.sto
   record-ends c r =
       either P (ltb r (w .count)) (region-ends c r (word (w .nodes) dataSize r) (word (w .nodes) dataOffset r)) at-6
 
-  class-ends : (c : ℕ) → P (planClass w s c)
+  pub class-ends : (found : Found) → P (planClass w s found)
   unfolding planClass
-  class-ends c = either P (eqb c noClass) at-4 (either P (ltb noClass c) at-6 (record-ends c (getD (w .heads) c 0)))
+  class-ends (class-is c) = either P (ltb c 256) (record-ends c (getD (w .heads) c 0)) at-6
+  class-ends no-class = at-4
+  class-ends bad-bits = at-6
 
-  pub take-ends : P (planTake w s)
-  unfolding planTake
-  take-ends = either P (eqb (w .off) 0) at-3 (class-ends (findClass (w .leaves) (w .top) (up s)))
+pub take-ends : (w : Words) (s : ℕ) (P : TakePlan → Type 0) → P (TakePlan.stop 3) → P (TakePlan.stop 4) → P (TakePlan.stop 6)
+    → ((c r o : ℕ) → P (whole c r o)) → ((c r o rest m : ℕ) → P (split c r o rest m)) → P (planTake w s)
+unfolding planTake
+take-ends w s P at-3 at-4 at-6 at-whole at-split =
+    either P (eqb (w .off) 0) at-3 (class-ends w s P at-4 at-6 at-whole at-split (findClass (w .leaves) (w .top) (up s)))
 
 -- ---- hand back
-module _ (w : Words) (r : ℕ) (P : BackPlan → Type 0) (at-5 : P (BackPlan.stop 5)) (at-6 : P (BackPlan.stop 6))
+-- of a live record, it does not stop with 5
+module _ (w : Words) (r : ℕ) (P : BackPlan → Type 0) (at-6 : P (BackPlan.stop 6))
     (at-merge : (p x : ℕ) (p-free x-free : Bool) (m : Merged) → P (merge p x p-free x-free m)) where
   merged-ends : (p x : ℕ) (p-free x-free : Bool) (m : Merged) → P (planMerged w p x p-free x-free m)
   unfolding planMerged
@@ -65,13 +71,14 @@ module _ (w : Words) (r : ℕ) (P : BackPlan → Type 0) (at-5 : P (BackPlan.sto
       (either P (ltb (w .size) (m .total)) at-6
       (either P (ltb (w .off + one p-free + one x-free) (w .count)) (at-merge p x p-free x-free m) at-6))
 
-  neighbours-ends : (p x : ℕ) → P (planNeighbours w r p x)
+  pub neighbours-ends : (p x : ℕ) → P (planNeighbours w r p x)
   unfolding planNeighbours planSides
   neighbours-ends p x =
       merged-ends p x (isFree (w .nodes) (w .count) p) (isFree (w .nodes) (w .count) x)
       (mergedOf w r p x (isFree (w .nodes) (w .count) p) (isFree (w .nodes) (w .count) x))
 
-  pub back-ends : P (planBack w r)
-  unfolding planBack
-  back-ends = either P (isLive (w .nodes) (w .count) r)
-      (neighbours-ends (word (w .nodes) neighborPrev r) (word (w .nodes) neighborNext r)) at-5
+pub back-ends : (w : Words) (r : ℕ) (P : BackPlan → Type 0) → P (BackPlan.stop 5) → P (BackPlan.stop 6)
+    → ((p x : ℕ) (p-free x-free : Bool) (m : Merged) → P (merge p x p-free x-free m)) → P (planBack w r)
+unfolding planBack
+back-ends w r P at-5 at-6 at-merge = either P (isLive (w .nodes) (w .count) r)
+    (neighbours-ends w r P at-6 at-merge (word (w .nodes) neighborPrev r) (word (w .nodes) neighborNext r)) at-5

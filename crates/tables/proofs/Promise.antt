@@ -1,11 +1,10 @@
 -- A call whose answer and words are the model's keeps all that it promises, and its promise allows one outcome. Assumes nothing.
 use mathlib.Core.Path.{_≡_, sym, ap, subst, _∙_}
-use mathlib.Core.List.{List}
-use Prim.Native.Nat.{ℕ}
+use Prim.Native.Nat.{ℕ, _^_, _<_}
 use Rattle.ledger.specs.Ledger.{Answer, setup, by-class}
 use Rattle.ledger.specs.Calls.{Call, answer}
 use Rattle.tables.specs.Words.{Words, Edition}
-use Rattle.tables.specs.Setup.{setupWords}
+use Rattle.tables.specs.Setup.{Lent, setupWords}
 use Rattle.tables.specs.Calls.{answerWords}
 use Rattle.tables.specs.Sound.{Sound}
 use Rattle.tables.specs.Promise.{Promise, SetupPromise}
@@ -39,21 +38,22 @@ pub one-outcome : (E : Edition) (c : Call) (w : Words) {u v : Words} {a b : Answ
 one-outcome E c w p q = p .exact ∙ sym (q .exact)
 
 -- ---- setup
-pub setup-promise : (E : Edition) (size count : ℕ) (nodes pile : List ℕ) {v : Words} {a : Answer}
-    → (a, v) ≡ setupWords E size count nodes pile → SetupPromise E size count nodes pile v a
-setup-promise E size count nodes pile {v} {a} e = record {
+pub setup-promise : (E : Edition) (size count : ℕ) (lent : Lent) {v : Words} {a : Answer}
+    → size < 2 ^ 32 → (a, v) ≡ setupWords E size count lent → SetupPromise E size count lent v a
+setup-promise E size count lent {v} {a} small e = record {
   exact = e;
-  ledger = λ small q.
-      subst (λ (u : Words). Sound E u (setup by-class size count)) (sym words-are) (setup-sound E size count nodes pile small (sym answer-is ∙ q));
-  kept = λ k q. words-are ∙ setup-refused E size count nodes pile k (sym answer-is ∙ q);
+  size-fits = small;
+  ledger = λ q.
+      subst (λ (u : Words). Sound E u (setup by-class size count)) (sym words-are) (setup-sound E size count lent small (sym answer-is ∙ q));
+  kept = λ k q. words-are ∙ setup-refused E size count lent k (sym answer-is ∙ q);
 }
   where
-    answer-is : a ≡ setupWords E size count nodes pile .0
+    answer-is : a ≡ setupWords E size count lent .0
     answer-is = ap (λ (x : Answer × Words). x .0) e
 
-    words-are : v ≡ setupWords E size count nodes pile .1
+    words-are : v ≡ setupWords E size count lent .1
     words-are = ap (λ (x : Answer × Words). x .1) e
 
-pub one-setup : (E : Edition) (size count : ℕ) (nodes pile : List ℕ) {u v : Words} {a b : Answer}
-    → SetupPromise E size count nodes pile u a → SetupPromise E size count nodes pile v b → _≡_ {A = Answer × Words} (a, u) (b, v)
-one-setup E size count nodes pile p q = p .exact ∙ sym (q .exact)
+pub one-setup : (E : Edition) (size count : ℕ) (lent : Lent) {u v : Words} {a b : Answer}
+    → SetupPromise E size count lent u a → SetupPromise E size count lent v b → _≡_ {A = Answer × Words} (a, u) (b, v)
+one-setup E size count lent p q = p .exact ∙ sym (q .exact)

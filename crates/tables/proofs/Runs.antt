@@ -14,7 +14,7 @@ use Rattle.ledger.proofs.Refusals.{no-other}
 use Rattle.ledger.proofs.Stretch.{stretch-restores}
 use Rattle.ledger.proofs.ByClass.{class-laws}
 use Rattle.tables.specs.Words.{Words, Edition}
-use Rattle.tables.specs.Setup.{setupWords}
+use Rattle.tables.specs.Setup.{Lent, setupWords}
 use Rattle.tables.specs.Calls.{answerWords, endWords, answersWords, logWords}
 use Rattle.tables.specs.Sound.{Sound}
 use Rattle.tables.proofs.SoundOf.{room-of}
@@ -51,7 +51,7 @@ module _ (E : Edition) where
 
   -- ---- runs
   -- one call of a run on a store of this size and count: both are the ledger's own, so the words have them
-  step-sound : (size count : ℕ) (c : Call) (w : Words) (l : Ledger Stacks) → WellFormed by-class size count l → Sound E w l
+  pub step-sound : (size count : ℕ) (c : Call) (w : Words) (l : Ledger Stacks) → WellFormed by-class size count l → Sound E w l
       → (answerWords E c w .0 ≡ answer by-class size count c l .0) × Sound E (answerWords E c w .1) (answer by-class size count c l .1)
   step-sound size count c w l f S =
       let size-is : w .size ≡ size = sym (S .well .lined .cover) ∙ f .lined .cover in
@@ -77,14 +77,14 @@ module _ (E : Edition) where
       ∙ sym (run-sound (w .size) (w .count) (S .count-low) cs v l (S .well) T .0)
 
   -- ---- from an accepted setup on
-  pub demand-2 : (size count : ℕ) (nodes pile : List ℕ) → size < 2 ^ 32 → setupWords E size count nodes pile .0 ≡ done → (cs : List Call)
-      → (answersWords E cs (setupWords E size count nodes pile .1) ≡ answers by-class size count cs (setup by-class size count))
-      × Sound E (endWords E cs (setupWords E size count nodes pile .1)) (end by-class size count cs (setup by-class size count))
-  demand-2 size count nodes pile small accepted cs =
-      let two : 2 ≤ count = setup-done E size count nodes pile .0 accepted .count-low in
-      let run = run-sound size count two cs (setupWords E size count nodes pile .1) (setup by-class size count)
+  pub demand-2 : (size count : ℕ) (lent : Lent) → size < 2 ^ 32 → setupWords E size count lent .0 ≡ done → (cs : List Call)
+      → (answersWords E cs (setupWords E size count lent .1) ≡ answers by-class size count cs (setup by-class size count))
+      × Sound E (endWords E cs (setupWords E size count lent .1)) (end by-class size count cs (setup by-class size count))
+  demand-2 size count lent small accepted cs =
+      let two : 2 ≤ count = setup-done E size count lent .0 accepted .count-low in
+      let run = run-sound size count two cs (setupWords E size count lent .1) (setup by-class size count)
       (setup-well by-class class-laws size count two)
-      (setup-sound E size count nodes pile small accepted) in
+      (setup-sound E size count lent small accepted) in
       (run .0, run .2)
 
   -- the ledger is the same after the stretch, so the words on both sides of it stand for one ledger
@@ -95,11 +95,11 @@ module _ (E : Edition) where
       let restored = stretch-restores by-class class-laws (w .size) (w .count) cs l (S .well) (subst (Stretch []) (run .1) h) in
       alike (endWords E cs w) w l (subst (Sound E (endWords E cs w)) restored (run .2)) S later-calls
 
-  pub demand-3 : (size count : ℕ) (nodes pile : List ℕ) → size < 2 ^ 32 → setupWords E size count nodes pile .0 ≡ done → (before : List Call)
-      → (cs : List Call) → Stretch [] (logWords E cs (endWords E before (setupWords E size count nodes pile .1)))
+  pub demand-3 : (size count : ℕ) (lent : Lent) → size < 2 ^ 32 → setupWords E size count lent .0 ≡ done → (before : List Call)
+      → (cs : List Call) → Stretch [] (logWords E cs (endWords E before (setupWords E size count lent .1)))
       → (later-calls : List Call)
-      → answersWords E later-calls (endWords E cs (endWords E before (setupWords E size count nodes pile .1)))
-      ≡ answersWords E later-calls (endWords E before (setupWords E size count nodes pile .1))
-  demand-3 size count nodes pile small accepted before cs h later-calls =
-      stretch-alike (endWords E before (setupWords E size count nodes pile .1)) (end by-class size count before (setup by-class size count))
-      (demand-2 size count nodes pile small accepted before .1) cs h later-calls
+      → answersWords E later-calls (endWords E cs (endWords E before (setupWords E size count lent .1)))
+      ≡ answersWords E later-calls (endWords E before (setupWords E size count lent .1))
+  demand-3 size count lent small accepted before cs h later-calls =
+      stretch-alike (endWords E before (setupWords E size count lent .1)) (end by-class size count before (setup by-class size count))
+      (demand-2 size count lent small accepted before .1) cs h later-calls

@@ -13,12 +13,13 @@ use Rattle.tables.specs.Layout.{binPrev, used, pileNeeded}
 use Rattle.tables.specs.Words.{Words, Edition, bounds}
 use Rattle.tables.specs.Steps.{insertAt, insert, popPile}
 use Rattle.tables.specs.Gate.{gate, gateOf}
-use Rattle.tables.specs.Setup.{blank, fresh, zeros, setupWords}
+use Rattle.tables.specs.Setup.{Lent, blank, fresh, zeros, setupWords}
 use Rattle.tables.specs.Calls.{answerWords}
 use Rattle.tables.specs.Reach.{Room, LeftAlone}
 use Rattle.tables.proofs.Gate.{open-has-room, gate-has-room}
 use Rattle.tables.proofs.PlanEnds.{gated-ends}
-use Rattle.tables.proofs.Untouched.{insert-elsewhere, wiped-elsewhere, piled-beyond}
+use Rattle.tables.proofs.Untouched.{insert-elsewhere, insert-nodes-length, wiped-elsewhere, piled-beyond}
+use Rattle.tables.proofs.Wiped.{length-wiped, length-piled}
 
 -- ---- a word that is left alone is none of record 0's seven, and no used word
 not-record-0 : (n i k : ℕ) → 2 ≤ n → LeftAlone n i → k < 7 → i ≢ 8 * 0 + k
@@ -60,22 +61,38 @@ module _ (E : Edition) (size count : ℕ) (nodes pile : List ℕ) where
       top-apart (inl e) l = absurd (omega (arith, room .count-high, E .small))
       top-apart (inr e) l = omega (arith, not-record-0 count i binPrev (room .count-low) alone (omega arith))
 
-  setup-keeps : (f : Words → ℕ) → (Room E count (length nodes) (length pile) → f (fresh E size count nodes pile) ≡ f (zeros nodes pile))
-      → f (setupWords E size count nodes pile .1) ≡ f (zeros nodes pile)
+-- ---- setup
+module _ (E : Edition) (size count : ℕ) (lent : Lent) where
+  setup-keeps : (f : Words → ℕ)
+      → (Room E count (length (lent .nodes)) (length (lent .pile)) → f (fresh E size count (lent .nodes) (lent .pile)) ≡ f (zeros lent))
+      → f (setupWords E size count lent .1) ≡ f (zeros lent)
   unfolding setupWords
   setup-keeps f h =
-      gated-ends (λ (x : Answer × Words). f (x .1) ≡ f (zeros nodes pile)) (gate E 1 count (length nodes) (length pile))
-      (zeros nodes pile) (done, fresh E size count nodes pile) (λ k. refl)
-      (λ e. h (open-has-room E 0 count (length nodes) (length pile) e))
+      gated-ends (λ (x : Answer × Words). f (x .1) ≡ f (zeros lent)) (gate E 1 count (length (lent .nodes)) (length (lent .pile)))
+      (zeros lent) (done, fresh E size count (lent .nodes) (lent .pile)) (λ k. refl)
+      (λ e. h (open-has-room E 0 count (length (lent .nodes)) (length (lent .pile)) e))
 
-  pub setup-leaves : (i : ℕ) → LeftAlone count i → getD (setupWords E size count nodes pile .1 .nodes) i 0 ≡ getD nodes i 0
-  setup-leaves i alone = setup-keeps (λ w. getD (w .nodes) i 0) (λ room. fresh-leaves room i alone)
+  pub setup-leaves : (i : ℕ) → LeftAlone count i → getD (setupWords E size count lent .1 .nodes) i 0 ≡ getD (lent .nodes) i 0
+  setup-leaves i alone = setup-keeps (λ w. getD (w .nodes) i 0) (λ room. fresh-leaves E size count (lent .nodes) (lent .pile) room i alone)
 
-  pub setup-pile-leaves : (i : ℕ) → pileNeeded count ≤ i → getD (setupWords E size count nodes pile .1 .pile) i 0 ≡ getD pile i 0
+  pub setup-pile-leaves : (i : ℕ) → pileNeeded count ≤ i → getD (setupWords E size count lent .1 .pile) i 0 ≡ getD (lent .pile) i 0
   setup-pile-leaves i h = setup-keeps (λ w. getD (w .pile) i 0) (λ room. fresh-pile i h)
     where
-      fresh-pile : (j : ℕ) → pileNeeded count ≤ j → getD (fresh E size count nodes pile .pile) j 0 ≡ getD pile j 0
-      fresh-pile j l = unfold fresh insert insertAt popPile blank in piled-beyond count count pile j l
+      fresh-pile : (j : ℕ) → pileNeeded count ≤ j → getD (fresh E size count (lent .nodes) (lent .pile) .pile) j 0 ≡ getD (lent .pile) j 0
+      fresh-pile j l = unfold fresh insert insertAt popPile blank in piled-beyond count count (lent .pile) j l
+
+  pub setup-lengths : (length (setupWords E size count lent .1 .nodes) ≡ length (lent .nodes))
+      × (length (setupWords E size count lent .1 .pile) ≡ length (lent .pile))
+  setup-lengths = (setup-keeps (λ w. length (w .nodes)) (λ room. fresh-nodes), setup-keeps (λ w. length (w .pile)) (λ room. fresh-pile))
+    where
+      fresh-nodes : length (fresh E size count (lent .nodes) (lent .pile) .nodes) ≡ length (lent .nodes)
+      fresh-nodes = unfold fresh popPile blank in
+          insert-nodes-length (bounds E (popPile (blank E size count (lent .nodes) (lent .pile))))
+          (popPile (blank E size count (lent .nodes) (lent .pile)))
+          size 0 0 (E .none) (E .none) ∙ length-wiped count (lent .nodes)
+
+      fresh-pile : length (fresh E size count (lent .nodes) (lent .pile) .pile) ≡ length (lent .pile)
+      fresh-pile = unfold fresh insert insertAt popPile blank in length-piled count count (lent .pile)
 
 pub reset-leaves : (E : Edition) (w : Words) (i : ℕ) → LeftAlone (w .count) i
     → getD (answerWords E Reset w .1 .nodes) i 0 ≡ getD (w .nodes) i 0

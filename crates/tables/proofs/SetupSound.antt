@@ -16,7 +16,7 @@ use Rattle.ledger.proofs.ByClass.{class-laws}
 use Rattle.tables.specs.Words.{Words, Edition, Bounds}
 use Rattle.tables.specs.Steps.{insertAt, insert, popPile}
 use Rattle.tables.specs.Gate.{gateOf}
-use Rattle.tables.specs.Setup.{piled, blank, fresh, setupWords}
+use Rattle.tables.specs.Setup.{Lent, piled, blank, fresh, setupWords}
 use Rattle.tables.specs.Calls.{answerWords}
 use Rattle.tables.specs.Linked.{stackOf, mask, nonZero}
 use Rattle.tables.specs.Sound.{Sound}
@@ -104,11 +104,11 @@ module _ (E : Edition) (size count : ℕ) (nodes pile : List ℕ) (size-fits : s
 
 -- ---- the calls
 module _ (E : Edition) where
-  pub setup-sound : (size count : ℕ) (nodes pile : List ℕ) → size < 2 ^ 32 → setupWords E size count nodes pile .0 ≡ done
-      → Sound E (setupWords E size count nodes pile .1) (setup by-class size count)
-  setup-sound size count nodes pile small e =
-      let room = setup-done E size count nodes pile .0 e in
-      rw (setup-opens E size count nodes pile room) (fresh-sound E size count nodes pile small room)
+  pub setup-sound : (size count : ℕ) (lent : Lent) → size < 2 ^ 32 → setupWords E size count lent .0 ≡ done
+      → Sound E (setupWords E size count lent .1) (setup by-class size count)
+  setup-sound size count lent small e =
+      let room = setup-done E size count lent .0 e in
+      rw (setup-opens E size count lent room) (fresh-sound E size count (lent .nodes) (lent .pile) small room)
 
   pub reset-sound : (w : Words) → w .size < 2 ^ 32 → Room E (w .count) (length (w .nodes)) (length (w .pile))
       → (answerWords E Reset w .0 ≡ done) × Sound E (answerWords E Reset w .1) (setup by-class (w .size) (w .count))

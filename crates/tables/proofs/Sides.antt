@@ -12,7 +12,7 @@ use Rattle.basics.specs.Sum.{one, is, tally}
 use Rattle.basics.proofs.Sums.{tally-append}
 use Rattle.basics.proofs.Counts.{In, is-own, one-below}
 use Rattle.small_float.specs.Class.{down}
-use Rattle.ledger.specs.Ledger.{Region, live, free, len, rec, without, gap, owed, past, unlist, stands, by-class}
+use Rattle.ledger.specs.Ledger.{Region, live, free, len, rec, without, Side, beside, stands, by-class, Stacks}
 use Rattle.ledger.specs.WellFormed.{has}
 use Rattle.ledger.proofs.KeptStacks.{stands-own}
 use Rattle.tables.specs.Layout.{pick, dataOffset, dataSize, neighborPrev, neighborNext, used, word}
@@ -31,11 +31,11 @@ opens [] = false
 opens (live n r ∷ rest) = false
 opens (free n r ∷ rest) = true
 
-pub one-owed : (side : List Region) → length (owed side) ≡ one (opens side)
-unfolding owed
-one-owed [] = refl
-one-owed (live n r ∷ rest) = refl
-one-owed (free n r ∷ rest) = refl
+pub one-owed : (side : List Region) (stacks : ℕ → List ℕ) → length (beside by-class side stacks .owed) ≡ one (opens side)
+unfolding beside
+one-owed [] stacks = refl
+one-owed (live n r ∷ rest) stacks = refl
+one-owed (free n r ∷ rest) stacks = refl
 
 -- the records before a place end with the nearest
 last-rec : (none : ℕ) (x : Region) (before : List Region) → last none (recs (reverse (x ∷ before))) ≡ rec x
@@ -61,14 +61,14 @@ module _ (E : Edition) (w : Words) (r n : ℕ) where
   neighbour (live z q) rest h e = rw (lt-ltb q (w .count) h, e)
   neighbour (free z q) rest h e = rw (lt-ltb q (w .count) h, e)
 
-  -- ---- the side before
-  pub record SideBefore (before after : List Region) (stacks : ℕ → List ℕ) (spare : List ℕ) (p : ℕ) : Type 0 where
+  -- ---- the side before, as the ledger reads it
+  pub record SideBefore (before after : List Region) (b : Side Stacks) (spare : List ℕ) (p : ℕ) : Type 0 where
     pub free-is : isFree (w .nodes) (w .count) p ≡ opens before
-    pub length-is : pick (opens before) (word (w .nodes) dataSize p) 0 ≡ gap before
-    pub start-is : pick (opens before) (word (w .nodes) dataOffset p) (word (w .nodes) dataOffset r) ≡ tally len (reverse (past before))
-    pub link-is : pick (opens before) (word (w .nodes) neighborPrev p) p ≡ last (E .none) (recs (reverse (past before)))
-    pub gap-is : Gap (bounds E w) (dropIf (bounds E w) (opens before) p w) (reverse (past before)) after
-        (unlist by-class before stacks) (owed before ++ spare) r (gap before + n)
+    pub length-is : pick (opens before) (word (w .nodes) dataSize p) 0 ≡ b .added
+    pub start-is : pick (opens before) (word (w .nodes) dataOffset p) (word (w .nodes) dataOffset r) ≡ tally len (reverse (b .rest))
+    pub link-is : pick (opens before) (word (w .nodes) neighborPrev p) p ≡ last (E .none) (recs (reverse (b .rest)))
+    pub gap-is : Gap (bounds E w) (dropIf (bounds E w) (opens before) p w) (reverse (b .rest)) after
+        (b .index) (b .owed ++ spare) r (b .added + n)
 
   -- what the words say of the nearest region before
   module _ (x : Region) (before after : List Region) (stacks : ℕ → List ℕ) (spare : List ℕ)
@@ -94,8 +94,8 @@ module _ (E : Edition) (w : Words) (r n : ℕ) where
       → Gap (bounds E w) w (reverse before) after stacks spare r n
       → ((d q : ℕ) → tally (stands d q) before ≤ tally (is q) (stacks d))
       → word (w .nodes) dataOffset r ≡ tally len (reverse before)
-      → SideBefore before after stacks spare (last (E .none) (recs (reverse before)))
-  unfolding gap past owed unlist
+      → SideBefore before after (beside by-class before stacks) spare (last (E .none) (recs (reverse before)))
+  unfolding beside
   side-before [] after stacks spare F h o-is = record {
     free-is = no-neighbour (F .shelf .small);
     length-is = refl;
@@ -127,19 +127,19 @@ module _ (E : Edition) (w : Words) (r n : ℕ) where
       reads = reads-x (free z q) before after stacks spare F
 
   -- ---- the side after, where the words v are what the side before has left
-  pub record SideAfter (v : Words) (xs after : List Region) (stacks : ℕ → List ℕ) (spare : List ℕ) (s x : ℕ) : Type 0 where
+  pub record SideAfter (v : Words) (xs after : List Region) (a : Side Stacks) (spare : List ℕ) (s x : ℕ) : Type 0 where
     pub free-is : isFree (w .nodes) (w .count) x ≡ opens after
-    pub length-is : pick (opens after) (word (w .nodes) dataSize x) 0 ≡ gap after
-    pub link-is : pick (opens after) (word (w .nodes) neighborNext x) x ≡ first (recs (past after)) (E .none)
-    pub gap-is : Gap (bounds E w) (dropIf (bounds E w) (opens after) x v) xs (past after)
-        (unlist by-class after stacks) (owed after ++ spare) r (s + gap after)
+    pub length-is : pick (opens after) (word (w .nodes) dataSize x) 0 ≡ a .added
+    pub link-is : pick (opens after) (word (w .nodes) neighborNext x) x ≡ first (recs (a .rest)) (E .none)
+    pub gap-is : Gap (bounds E w) (dropIf (bounds E w) (opens after) x v) xs (a .rest)
+        (a .index) (a .owed ++ spare) r (s + a .added)
 
   pub side-after : (v : Words) (xs after : List Region) (o : ℕ) (stacks : ℕ → List ℕ) (spare : List ℕ) (s : ℕ)
       → Gap (bounds E w) v xs after stacks spare r s
       → ((d q : ℕ) → tally (stands d q) after ≤ tally (is q) (stacks d))
       → Reads (w .nodes) o after → Chain (w .nodes) r (recs after) (E .none)
-      → SideAfter v xs after stacks spare s (first (recs after) (E .none))
-  unfolding gap past owed unlist
+      → SideAfter v xs after (beside by-class after stacks) spare s (first (recs after) (E .none))
+  unfolding beside
   side-after v xs [] o stacks spare s G h reads chain = record {
     free-is = no-neighbour (G .shelf .small);
     length-is = refl;

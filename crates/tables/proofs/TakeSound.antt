@@ -24,7 +24,7 @@ use Rattle.ledger.proofs.ByClass.{class-laws}
 use Rattle.tables.specs.Layout.{pick, dataOffset, word}
 use Rattle.tables.specs.Words.{Words, Edition, bounds, withTotal}
 use Rattle.tables.specs.Steps.{insert, insertAt, unlinkAt, popPile}
-use Rattle.tables.specs.Search.{noClass, findClass}
+use Rattle.tables.specs.Search.{Found, class-is, no-class, findClass}
 use Rattle.tables.specs.Take.{stop, whole, split, planSpare, planRegion, planRecord, planClass, planTake, granting, splitting, doTake, takeWords}
 use Rattle.tables.specs.Linked.{first, Reads}
 use Rattle.tables.specs.Sound.{Sound}
@@ -37,26 +37,26 @@ use Rattle.tables.proofs.Search.{search-finds}
 use Rattle.tables.proofs.Grant.{whole-standing, split-standing}
 
 module _ (E : Edition) (w : Words) (l : Ledger Stacks) (S : Sound E w l) (s : ℕ) where
-  abbrev found : ℕ
+  abbrev found : Found
   found = findClass (w .leaves) (w .top) (up s)
 
   -- ---- the class that is found
-  none-found : ((c : ℕ) → up s ≤ c → c < classesInUse → l .index c ≡ []) → found ≡ noClass
+  none-found : ((c : ℕ) → up s ≤ c → c < classesInUse → l .index c ≡ []) → found ≡ no-class
   none-found empty = elim (search-finds E w l S (up s)) [
     | inl n ↦ n .0
-    | inr f ↦ absurd (f .0 .1 (elim (below? found classesInUse) [
-      | below h e ↦ empty found (f .0 .0) h
-      | beyond h e ↦ high-empty E w l S found h
+    | inr f ↦ absurd (f .2 .0 .1 (elim (below? (f .0) classesInUse) [
+      | below h e ↦ empty (f .0) (f .2 .0 .0) h
+      | beyond h e ↦ high-empty E w l S (f .0) h
     ]))
   ]
 
   class-found : (c r : ℕ) (under : List ℕ) → up s ≤ c → l .index c ≡ r ∷ under
-      → ((d : ℕ) → up s ≤ d → d < c → l .index d ≡ []) → found ≡ c
+      → ((d : ℕ) → up s ≤ d → d < c → l .index d ≡ []) → found ≡ class-is c
   class-found c r under h top lower = elim (search-finds E w l S (up s)) [
     | inl n ↦ absurd (holds (n .1 c h))
-    | inr f ↦ elim (below? found c) [
-      | below g e ↦ absurd (f .0 .1 (lower found (f .0 .0) g))
-      | beyond g e ↦ omega (arith, f .1 c (h, holds))
+    | inr f ↦ elim (below? (f .0) c) [
+      | below g e ↦ absurd (f .2 .0 .1 (lower (f .0) (f .2 .0 .0) g))
+      | beyond g e ↦ f .1 ∙ ap class-is (omega (arith, g, f .2 .1 c (h, holds)))
     ]
   ]
     where
@@ -134,8 +134,7 @@ module _ (E : Edition) (w : Words) (l : Ledger Stacks) (S : Sound E w l) (s : �
     plan-is = rw (
       ne-eqb (w .off) 0 (omega (arith, S .spares, t .two-spare)),
       class-found (down n) r (t .under) (t .reaching) (t .on-top) (t .none-lower),
-      ne-eqb (down n) noClass (omega (arith, t .in-use)),
-      le-ltb noClass (down n) (omega (arith, t .in-use)),
+      lt-ltb (down n) 256 (omega (arith, t .in-use)),
       head-is,
       lt-ltb r (w .count) r-below,
       reads .1,

@@ -13,11 +13,11 @@ use Rattle.small_float.specs.Class.{up}
 use Rattle.ledger.specs.Ledger.{Answer, length-is, refused}
 use Rattle.ledger.specs.Calls.{Call, Take, HandBack, SizeOf, Report, FullReport, Reset}
 use Rattle.tables.specs.Layout.{pick, dataOffset, dataSize, binNext, neighborPrev, neighborNext, used, word, nodesNeeded, pileNeeded}
-use Rattle.tables.specs.Words.{Words, Edition, Bounds, bounds}
+use Rattle.tables.specs.Words.{Words, Edition, Bounds, bounds, withTables}
 use Rattle.tables.specs.Steps.{popPile}
 use Rattle.tables.specs.Gate.{gateOf, gated}
-use Rattle.tables.specs.Setup.{blank, fresh}
-use Rattle.tables.specs.Search.{noClass, findClass}
+use Rattle.tables.specs.Setup.{Lent, blank, fresh, setupWords}
+use Rattle.tables.specs.Search.{Found, class-is, no-class, bad-bits, findClass}
 use Rattle.tables.specs.Take.{TakePlan, whole, split, planSpare, planRegion, planRecord, planClass, planTake, granting, splitting, doTake}
 use Rattle.tables.specs.HandBack.{BackPlan, merge, isLive, isFree, mergedOf, planMerged, planSides, planNeighbours, planBack, merging, doBack}
 use Rattle.tables.specs.Questions.{reportClass, reportLeaf, reportTop, reportOf, listLength, noted, countFrom, fullAnswer}
@@ -25,8 +25,9 @@ use Rattle.tables.specs.Calls.{answerWords}
 use Rattle.tables.specs.Reach.{Room, AgreeOn, Agree}
 use Rattle.tables.specs.Guards.{TakeGuards, BackGuards}
 use Rattle.tables.proofs.Gate.{room-opens-gate, gated-open}
+use Rattle.tables.proofs.Refusals.{setup-opens}
 use Rattle.tables.proofs.Guards.{take-guards, back-guards, live-low, free-low}
-use Rattle.tables.proofs.Agreeing.{word-agree, withTables, tables-agree, by-tables, insert-agree, unlinkAt-agree, drop-agree}
+use Rattle.tables.proofs.Agreeing.{word-agree, tables-agree, by-tables, insert-agree, unlinkAt-agree, drop-agree}
 use Rattle.tables.proofs.Agreeing.{popPile-agree, total-agree, live-agree, wiped-agree, piled-agree}
 
 -- two outcomes with one answer, whose words agree
@@ -63,14 +64,16 @@ module _ (w : Words) (nodes pile : List ℕ) (N : AgreeOn (nodesNeeded (w .count
     | beyond l e ↦ rw e refl
   ]
 
+  class-same : (s : ℕ) (found : Found) → planClass w s found ≡ planClass v s found
+  unfolding planClass
+  class-same s (class-is c) = ap (λ (p : TakePlan). pick (ltb c 256) p (TakePlan.stop 6)) (record-same s c (getD (w .heads) c 0))
+  class-same s no-class = refl
+  class-same s bad-bits = refl
+
   take-same : (s : ℕ) → planTake w s ≡ planTake v s
-  unfolding planTake planClass
+  unfolding planTake
   take-same s =
-      ap (λ (p : TakePlan). pick (eqb (w .off) 0) (TakePlan.stop 3) (pick (eqb c noClass) (TakePlan.stop 4) (pick (ltb noClass c) (TakePlan.stop 6) p)))
-      (record-same s c (getD (w .heads) c 0))
-    where
-      c : ℕ
-      c = findClass (w .leaves) (w .top) (up s)
+      ap (λ (p : TakePlan). pick (eqb (w .off) 0) (TakePlan.stop 3) p) (class-same s (findClass (w .leaves) (w .top) (up s)))
 
   -- ---- take: the commit
   agree : Agree (w .count) w v
@@ -212,15 +215,26 @@ module _ (w : Words) (nodes pile : List ℕ) (N : AgreeOn (nodesNeeded (w .count
   counts-same (suc k) c so-far =
       λ i. noted (walk-same (w .count) (getD (w .heads) c 0) 0 i) (λ (l : List ℕ). counts-same k (suc c) l i) c so-far
 
-  -- ---- reset
-  fresh-agree : (E : Edition) → Agree (w .count) (fresh E (w .size) (w .count) (w .nodes) (w .pile)) (fresh E (w .size) (w .count) nodes pile)
-  unfolding fresh blank popPile
-  fresh-agree E = insert-agree (w .count) (popPile-agree (w .count) blank-agree) (bounds E w) (w .size) 0 0 (E .none) (E .none)
-    where
-      blank-agree : Agree (w .count) (blank E (w .size) (w .count) (w .nodes) (w .pile)) (blank E (w .size) (w .count) nodes pile)
-      blank-agree =
-          tables-agree (w .count) (blank E (w .size) (w .count) (w .nodes) (w .pile)) (wiped-agree (nodesNeeded (w .count)) (w .count) N)
-          (piled-agree (pileNeeded (w .count)) (w .count) (w .count) P)
+-- ---- setup and reset
+fresh-agree : (E : Edition) (size count : ℕ) {nodes pile others spare : List ℕ} → AgreeOn (nodesNeeded count) nodes others
+    → AgreeOn (pileNeeded count) pile spare → Agree count (fresh E size count nodes pile) (fresh E size count others spare)
+unfolding fresh blank popPile
+fresh-agree E size count {nodes} {pile} {others} {spare} N P =
+    insert-agree count (popPile-agree count blank-agree) (bounds E (blank E size count nodes pile)) size 0 0 (E .none) (E .none)
+  where
+    blank-agree : Agree count (blank E size count nodes pile) (blank E size count others spare)
+    blank-agree =
+        tables-agree count (blank E size count nodes pile) (wiped-agree (nodesNeeded count) count N) (piled-agree (pileNeeded count) count count P)
+
+-- setup reads of its tables no more than their lengths, and of its arrays nothing
+pub setup-not-read : (E : Edition) (size count : ℕ) (a b : Lent) → Room E count (length (a .nodes)) (length (a .pile))
+    → AgreeOn (nodesNeeded count) (a .nodes) (b .nodes) → AgreeOn (pileNeeded count) (a .pile) (b .pile)
+    → (setupWords E size count a .0 ≡ setupWords E size count b .0) × Agree count (setupWords E size count a .1) (setupWords E size count b .1)
+setup-not-read E size count a b room N P =
+    rw (setup-opens E size count a room, setup-opens E size count b room-too) (refl, fresh-agree E size count N P)
+  where
+    room-too : Room E count (length (b .nodes)) (length (b .pile))
+    room-too = record { count-low = room .count-low; count-high = room .count-high; nodes-room = N .long-too; pile-room = P .long-too }
 
 -- ---- every call
 module _ (E : Edition) (w : Words) (nodes pile : List ℕ) (N : AgreeOn (nodesNeeded (w .count)) (w .nodes) nodes)
@@ -243,7 +257,7 @@ module _ (E : Edition) (w : Words) (nodes pile : List ℕ) (N : AgreeOn (nodesNe
   call-alike (SizeOf r) = opened _ _ (size-same w nodes pile N P r, agree w nodes pile N P)
   call-alike Report = opened _ _ (report-same w nodes pile N P, agree w nodes pile N P)
   call-alike FullReport = opened _ _ (ap fullAnswer (counts-same w nodes pile N P 256 0 (replicate 256 0)), agree w nodes pile N P)
-  call-alike Reset = opened _ _ (refl, fresh-agree w nodes pile N P E)
+  call-alike Reset = opened _ _ (refl, fresh-agree E (w .size) (w .count) N P)
 
 pub not-read : (E : Edition) (c : Call) (w v : Words) → Agree (w .count) w v → Room E (w .count) (length (w .nodes)) (length (w .pile))
     → (answerWords E c w .0 ≡ answerWords E c v .0) × Agree (w .count) (answerWords E c w .1) (answerWords E c v .1)

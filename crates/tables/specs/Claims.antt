@@ -2,20 +2,20 @@
 -- edition. Assumes nothing.
 use mathlib.Core.Path.{_≡_}
 use mathlib.Core.Logic.{_↔_, _⊎_}
-use mathlib.Core.List.{List, []}
-use Prim.Native.Nat.{ℕ, zero, suc, _+_, _*_, _^_, _≤_, _<_}
+use mathlib.Core.List.{List, [], _∷_}
+use Prim.Native.Nat.{ℕ, zero, suc, _+_, _*_, _-_, _^_, _≤_, _<_}
 use lib.ListN.{length, getD}
 use Rattle.basics.specs.Extreme.{Greatest, Least}
 use Rattle.ledger.specs.Ledger.{Ledger, granted, done, refused, setup, by-class, Stacks}
-use Rattle.ledger.specs.Calls.{Call, Take, FullReport, Reset, answer, end, answers}
+use Rattle.ledger.specs.Calls.{Call, Take, HandBack, SizeOf, Report, FullReport, Reset, answer, end, answers}
 use Rattle.ledger.specs.Stretch.{Stretch}
-use Rattle.tables.specs.Layout.{binNext, word, nodesNeeded, pileNeeded}
+use Rattle.tables.specs.Layout.{binNext, used, word, nodesNeeded, pileNeeded}
 use Rattle.tables.specs.Words.{Words, Edition}
-use Rattle.tables.specs.Setup.{zeros, setupWords}
-use Rattle.tables.specs.Search.{noClass, findClass, highBit}
+use Rattle.tables.specs.Setup.{Lent, zeros, setupWords}
+use Rattle.tables.specs.Search.{class-is, no-class, findClass, highBit}
 use Rattle.tables.specs.Calls.{answerWords, endWords, answersWords, logWords}
 use Rattle.tables.specs.Sound.{Sound}
-use Rattle.tables.specs.Reach.{Room, KeptBeyond, Agree, LeftAlone}
+use Rattle.tables.specs.Reach.{Room, KeptBeyond, AgreeOn, Agree, LeftAlone, Written}
 
 -- the record that is reached after k steps along a class list
 unfoldable pub along : List ℕ → ℕ → ℕ → ℕ
@@ -35,6 +35,24 @@ abbrev pub TooShort : Edition → (count nodes pile : ℕ) → Type 0
 TooShort E count nodes pile =
     ((2 ≤ count) × (count ≤ E .limit)) × ((nodes < nodesNeeded count) ⊎ (pile < pileNeeded count))
 
+-- k is one of these numbers
+abbrev pub OneOf : List ℕ → ℕ → Type 0
+OneOf [] k = ⊥
+OneOf (n ∷ ns) k = (k ≡ n) ⊎ OneOf ns k
+
+-- the refusals that a call can give at all, on any words (setup: 1 and 2)
+abbrev pub mayGive : Call → List ℕ
+mayGive (Take s) = 2 ∷ 3 ∷ 4 ∷ 6 ∷ []
+mayGive (HandBack r) = 2 ∷ 5 ∷ 6 ∷ []
+mayGive (SizeOf r) = 2 ∷ 5 ∷ 6 ∷ []
+mayGive Report = 2 ∷ 6 ∷ []
+mayGive FullReport = 2 ∷ 6 ∷ []
+mayGive Reset = 2 ∷ 6 ∷ []
+
+-- "number at or above the count, or record not live", by the words: its used word is 0
+abbrev pub NotLive : Words → ℕ → Type 0
+NotLive w r = (w .count ≤ r) ⊎ (word (w .nodes) used r ≡ 0)
+
 -- class c holds something
 abbrev pub Holds : Ledger Stacks → ℕ → Type 0
 Holds l c = ¬ (l .index c ≡ [])
@@ -42,20 +60,27 @@ Holds l c = ¬ (l .index c ≡ [])
 pub record Claims (E : Edition) : Type 0 where
   -- ---- setup: refused as 1 exactly for a bad count, else as 2 exactly for a short table; refused, it gives a head of zeros and leaves the
   -- tables; accepted, whatever the words held, the tables are sound for the ledger's setup
-  pub setup-1 : (size count : ℕ) (nodes pile : List ℕ) → (setupWords E size count nodes pile .0 ≡ refused 1) ↔ BadCount E count
-  pub setup-2 : (size count : ℕ) (nodes pile : List ℕ)
-      → (setupWords E size count nodes pile .0 ≡ refused 2) ↔ TooShort E count (length nodes) (length pile)
-  pub setup-done : (size count : ℕ) (nodes pile : List ℕ)
-      → (setupWords E size count nodes pile .0 ≡ done) ↔ Room E count (length nodes) (length pile)
-  pub setup-refused : (size count : ℕ) (nodes pile : List ℕ) (k : ℕ) → setupWords E size count nodes pile .0 ≡ refused k
-      → setupWords E size count nodes pile .1 ≡ zeros nodes pile
-  pub setup-sound : (size count : ℕ) (nodes pile : List ℕ) → size < 2 ^ 32 → setupWords E size count nodes pile .0 ≡ done
-      → Sound E (setupWords E size count nodes pile .1) (setup by-class size count)
+  pub setup-1 : (size count : ℕ) (lent : Lent) → (setupWords E size count lent .0 ≡ refused 1) ↔ BadCount E count
+  pub setup-2 : (size count : ℕ) (lent : Lent)
+      → (setupWords E size count lent .0 ≡ refused 2) ↔ TooShort E count (length (lent .nodes)) (length (lent .pile))
+  pub setup-done : (size count : ℕ) (lent : Lent)
+      → (setupWords E size count lent .0 ≡ done) ↔ Room E count (length (lent .nodes)) (length (lent .pile))
+  pub setup-refused : (size count : ℕ) (lent : Lent) (k : ℕ) → setupWords E size count lent .0 ≡ refused k
+      → setupWords E size count lent .1 ≡ zeros lent
+  pub setup-sound : (size count : ℕ) (lent : Lent) → size < 2 ^ 32 → setupWords E size count lent .0 ≡ done
+      → Sound E (setupWords E size count lent .1) (setup by-class size count)
   -- which words setup and reset write
-  pub setup-leaves : (size count : ℕ) (nodes pile : List ℕ) (i : ℕ) → LeftAlone count i
-      → getD (setupWords E size count nodes pile .1 .nodes) i 0 ≡ getD nodes i 0
-  pub setup-pile-leaves : (size count : ℕ) (nodes pile : List ℕ) (i : ℕ) → pileNeeded count ≤ i
-      → getD (setupWords E size count nodes pile .1 .pile) i 0 ≡ getD pile i 0
+  pub setup-leaves : (size count : ℕ) (lent : Lent) (i : ℕ) → LeftAlone count i
+      → getD (setupWords E size count lent .1 .nodes) i 0 ≡ getD (lent .nodes) i 0
+  pub setup-pile-leaves : (size count : ℕ) (lent : Lent) (i : ℕ) → pileNeeded count ≤ i
+      → getD (setupWords E size count lent .1 .pile) i 0 ≡ getD (lent .pile) i 0
+  pub setup-lengths : (size count : ℕ) (lent : Lent) → (length (setupWords E size count lent .1 .nodes) ≡ length (lent .nodes))
+      × (length (setupWords E size count lent .1 .pile) ≡ length (lent .pile))
+  -- and what they write does not depend on what stood there
+  pub setup-fixed : (size count : ℕ) (a b : Lent) → size < 2 ^ 32 → setupWords E size count a .0 ≡ done → setupWords E size count b .0 ≡ done
+      → (i : ℕ) → Written count i → getD (setupWords E size count a .1 .nodes) i 0 ≡ getD (setupWords E size count b .1 .nodes) i 0
+  pub setup-pile-fixed : (size count : ℕ) (lent : Lent) → setupWords E size count lent .0 ≡ done → (i : ℕ) → i < pileNeeded count
+      → getD (setupWords E size count lent .1 .pile) i 0 ≡ count - i - 1
   pub reset-leaves : (w : Words) (i : ℕ) → LeftAlone (w .count) i → getD (answerWords E Reset w .1 .nodes) i 0 ≡ getD (w .nodes) i 0
   -- "Reset needs only a good count and lengths, whatever the words held."
   pub reset-sound : (w : Words) → w .size < 2 ^ 32 → Room E (w .count) (length (w .nodes)) (length (w .pile))
@@ -64,6 +89,17 @@ pub record Claims (E : Edition) : Type 0 where
   pub call-6 : (c : Call) (w : Words) → BadCount E (w .count) → answerWords E c w ≡ (refused 6, w)
   pub call-2 : (c : Call) (w : Words) → TooShort E (w .count) (length (w .nodes)) (length (w .pile)) → answerWords E c w ≡ (refused 2, w)
   pub not-2 : (c : Call) (w : Words) → Room E (w .count) (length (w .nodes)) (length (w .pile)) → ¬ (answerWords E c w .0 ≡ refused 2)
+  -- ---- "given exactly when", behind an open gate and on any words, sound or not: 3 exactly if by the head one record is spare (`free_offset` is the
+  -- spare records less one, so no head says 'none'); 5 exactly if the number is at or above the count or the used word is 0
+  pub take-3 : (w : Words) (s : ℕ) → Room E (w .count) (length (w .nodes)) (length (w .pile))
+      → (answerWords E (Take s) w .0 ≡ refused 3) ↔ (w .off ≡ 0)
+  pub back-5 : (w : Words) (r : ℕ) → Room E (w .count) (length (w .nodes)) (length (w .pile))
+      → (answerWords E (HandBack r) w .0 ≡ refused 5) ↔ NotLive w r
+  pub size-5 : (w : Words) (r : ℕ) → Room E (w .count) (length (w .nodes)) (length (w .pile))
+      → (answerWords E (SizeOf r) w .0 ≡ refused 5) ↔ NotLive w r
+  -- which numbers a call can give at all; so no call but setup gives 1
+  pub numbers : (c : Call) (w : Words) (k : ℕ) → answerWords E c w .0 ≡ refused k → OneOf (mayGive c) k
+  pub setup-numbers : (size count : ℕ) (lent : Lent) (k : ℕ) → setupWords E size count lent .0 ≡ refused k → OneOf (1 ∷ 2 ∷ []) k
   -- ---- sound tables: "Every call takes sound to sound and never gives 6 there", and answers as the ledger
   pub call-sound : (w : Words) (l : Ledger Stacks) → Sound E w l → (c : Call)
       → (answerWords E c w .0 ≡ answer by-class (w .size) (w .count) c l .0)
@@ -77,24 +113,32 @@ pub record Claims (E : Edition) : Type 0 where
   -- "a circular list ends the full report with 6"
   pub circular-6 : (w : Words) (c : ℕ) → c < 256 → Circular w c → Room E (w .count) (length (w .nodes)) (length (w .pile))
       → answerWords E FullReport w .0 ≡ refused 6
+  -- and nothing else does, once the gate is open
+  pub circular-exactly : (w : Words) → Room E (w .count) (length (w .nodes)) (length (w .pile))
+      → (answerWords E FullReport w .0 ≡ refused 6) ↔ ((c : ℕ) × (c < 256) × Circular w c)
   -- "words beyond them are neither read nor written"
   pub not-written : (c : Call) (w : Words) → KeptBeyond (w .count) w (answerWords E c w .1)
   pub not-read : (c : Call) (w v : Words) → Agree (w .count) w v → Room E (w .count) (length (w .nodes)) (length (w .pile))
       → (answerWords E c w .0 ≡ answerWords E c v .0) × Agree (w .count) (answerWords E c w .1) (answerWords E c v .1)
+  -- of what it is lent, an accepted setup reads neither the arrays nor, of the tables, more than the lengths need
+  pub setup-not-read : (size count : ℕ) (a b : Lent) → Room E count (length (a .nodes)) (length (a .pile))
+      → AgreeOn (nodesNeeded count) (a .nodes) (b .nodes) → AgreeOn (pileNeeded count) (a .pile) (b .pile)
+      → (setupWords E size count a .0 ≡ setupWords E size count b .0)
+      × Agree count (setupWords E size count a .1) (setupWords E size count b .1)
   -- ---- the bits: the lowest class that holds something at or above c, and the highest of all
   pub search-finds : (w : Words) (l : Ledger Stacks) → Sound E w l → (c : ℕ)
-      → ((findClass (w .leaves) (w .top) c ≡ noClass) × ((d : ℕ) → c ≤ d → l .index d ≡ []))
-      ⊎ Least (λ d. (c ≤ d) × Holds l d) (findClass (w .leaves) (w .top) c)
+      → ((findClass (w .leaves) (w .top) c ≡ no-class) × ((d : ℕ) → c ≤ d → l .index d ≡ []))
+      ⊎ ((d : ℕ) × (findClass (w .leaves) (w .top) c ≡ class-is d) × Least (λ i. (c ≤ i) × Holds l i) d)
   pub highest-found : (w : Words) (l : Ledger Stacks) → Sound E w l
       → ((w .top ≡ 0) × ((d : ℕ) → l .index d ≡ []))
       ⊎ Greatest (λ d. Holds l d) (8 * highBit (w .top) + highBit (getD (w .leaves) (highBit (w .top)) 0))
   -- ---- runs. Demand 2: "from an accepted setup .., under any calls .., answers and reports .. are proved equal to document 01's plain ledger"
-  pub demand-2 : (size count : ℕ) (nodes pile : List ℕ) → size < 2 ^ 32 → setupWords E size count nodes pile .0 ≡ done → (cs : List Call)
-      → (answersWords E cs (setupWords E size count nodes pile .1) ≡ answers by-class size count cs (setup by-class size count))
-      × Sound E (endWords E cs (setupWords E size count nodes pile .1)) (end by-class size count cs (setup by-class size count))
+  pub demand-2 : (size count : ℕ) (lent : Lent) → size < 2 ^ 32 → setupWords E size count lent .0 ≡ done → (cs : List Call)
+      → (answersWords E cs (setupWords E size count lent .1) ≡ answers by-class size count cs (setup by-class size count))
+      × Sound E (endWords E cs (setupWords E size count lent .1)) (end by-class size count cs (setup by-class size count))
   -- Demand 3: after the stretch "every later call, handle numbers and reports included, answers as though the stretch had never been"
-  pub demand-3 : (size count : ℕ) (nodes pile : List ℕ) → size < 2 ^ 32 → setupWords E size count nodes pile .0 ≡ done → (before : List Call)
-      → (cs : List Call) → Stretch [] (logWords E cs (endWords E before (setupWords E size count nodes pile .1)))
+  pub demand-3 : (size count : ℕ) (lent : Lent) → size < 2 ^ 32 → setupWords E size count lent .0 ≡ done → (before : List Call)
+      → (cs : List Call) → Stretch [] (logWords E cs (endWords E before (setupWords E size count lent .1)))
       → (later-calls : List Call)
-      → answersWords E later-calls (endWords E cs (endWords E before (setupWords E size count nodes pile .1)))
-      ≡ answersWords E later-calls (endWords E before (setupWords E size count nodes pile .1))
+      → answersWords E later-calls (endWords E cs (endWords E before (setupWords E size count lent .1)))
+      ≡ answersWords E later-calls (endWords E before (setupWords E size count lent .1))

@@ -1,20 +1,21 @@
 -- Document 01's run on words, a small store shown whole, rows that catch models which are nearly right, and spoiled words.
 -- All are of the base's edition, on tables that held sevens; proofs/Answers.antt computes them. Assumes nothing.
 use mathlib.Core.Path.{_≡_}
-use Prim.Native.Nat.{ℕ}
+use Prim.Native.Nat.{ℕ, _^_, _≤_, _<_}
 use mathlib.Core.List.{List, [], _∷_}
-use lib.ListN.{set, replicate}
+use lib.ListN.{length, set, replicate}
 use Rattle.ledger.specs.Ledger.{Answer, granted, done, length-is, reported, refused}
 use Rattle.ledger.specs.Calls.{Call, Take, HandBack, SizeOf, Report, FullReport, Reset}
 use Rattle.ledger.specs.Runs.{the-calls, the-answers}
 use Rattle.tables.specs.Layout.{dataOffset, dataSize, binNext, put, nodesNeeded, pileNeeded}
 use Rattle.tables.specs.Words.{Words, withNodes}
-use Rattle.tables.specs.Setup.{setupWords}
+use Rattle.tables.specs.Setup.{Lent, tablesAlone, setupWords}
 use Rattle.tables.specs.Calls.{edition32, answerWords, endWords, answersWords}
+use Rattle.tables.specs.Claims.{OneOf, mayGive}
 
 unfoldable pub desk : (size count : ℕ) → Words
 unfolding setupWords
-desk size count = setupWords edition32 size count (replicate (nodesNeeded count) 7) (replicate (pileNeeded count) 7) .1
+desk size count = setupWords edition32 size count (tablesAlone (replicate (nodesNeeded count) 7) (replicate (pileNeeded count) 7)) .1
 
 abbrev pub Answering : (size count : ℕ) → List Call → List Answer → Type 0
 Answering size count calls expected = answersWords edition32 calls (desk size count) ≡ expected
@@ -96,3 +97,20 @@ pub record Spoiled : Type 0 where
   pub outside : RefusedKept (Take 20) (spoiled dataOffset 1)
   -- a list that comes back to its own record
   pub around : RefusedKept FullReport (spoiled binNext 0)
+
+-- ---- "Count 1 is refused, 2 accepted though every take gives 3; 131,072 is accepted, 131,073 refused."
+-- tables that are long enough for a count
+abbrev pub LongEnough : ℕ → Lent → Type 0
+LongEnough count lent = (nodesNeeded count ≤ length (lent .nodes)) × (pileNeeded count ≤ length (lent .pile))
+
+pub record CountRows : Type 0 where
+  pub count-1 : (size : ℕ) (lent : Lent) → setupWords edition32 size 1 lent .0 ≡ refused 1
+  pub count-2 : (size : ℕ) (lent : Lent) → LongEnough 2 lent → setupWords edition32 size 2 lent .0 ≡ done
+  pub takes-of-2 : (size : ℕ) (lent : Lent) → size < 2 ^ 32 → LongEnough 2 lent → (cs : List Call) (s : ℕ)
+      → answerWords edition32 (Take s) (endWords edition32 cs (setupWords edition32 size 2 lent .1)) .0 ≡ refused 3
+  pub count-131072 : (size : ℕ) (lent : Lent) → LongEnough 131072 lent → setupWords edition32 size 131072 lent .0 ≡ done
+  pub count-131073 : (size : ℕ) (lent : Lent) → setupWords edition32 size 131073 lent .0 ≡ refused 1
+
+-- ---- every number that `mayGive` names is given, on some words
+pub record AllGiven : Type 0 where
+  pub all-given : (c : Call) (k : ℕ) → OneOf (mayGive c) k → (w : Words) × (answerWords edition32 c w .0 ≡ refused k)

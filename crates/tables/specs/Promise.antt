@@ -5,7 +5,7 @@ use Prim.Native.Nat.{ℕ, _+_, _^_, _≤_, _<_}
 use Rattle.ledger.specs.Ledger.{Ledger, Answer, granted, done, refused, setup, by-class, Stacks}
 use Rattle.ledger.specs.Calls.{Call, Take, answer}
 use Rattle.tables.specs.Words.{Words, Edition}
-use Rattle.tables.specs.Setup.{zeros, setupWords}
+use Rattle.tables.specs.Setup.{Lent, zeros, setupWords}
 use Rattle.tables.specs.Calls.{answerWords}
 use Rattle.tables.specs.Sound.{Sound}
 
@@ -21,10 +21,12 @@ pub record Promise (E : Edition) (c : Call) (w v : Words) (a : Answer) : Type 0 
   -- a grant lies inside the store, on any tables
   pub inside : (s o r : ℕ) → c ≡ Take s → a ≡ granted o r → o + s ≤ w .size
 
--- setup with this size and count, on these tables, answers a and leaves the words v: the same parts, but that no grant is made
-pub record SetupPromise (E : Edition) (size count : ℕ) (nodes pile : List ℕ) (v : Words) (a : Answer) : Type 0 where
-  pub exact : (a, v) ≡ setupWords E size count nodes pile
+-- setup with this size and count, lent these arrays and tables, answers a and leaves the words v: the same parts, but that no grant is made
+pub record SetupPromise (E : Edition) (size count : ℕ) (lent : Lent) (v : Words) (a : Answer) : Type 0 where
+  pub exact : (a, v) ≡ setupWords E size count lent
+  -- the size is a 32-bit number, as its type says
+  pub size-fits : size < 2 ^ 32
   -- accepted, whatever the tables held, they stand for the ledger's setup
-  pub ledger : size < 2 ^ 32 → a ≡ done → Sound E v (setup by-class size count)
-  -- refused, the tables are as they came and the head is one of zeros
-  pub kept : (k : ℕ) → a ≡ refused k → v ≡ zeros nodes pile
+  pub ledger : a ≡ done → Sound E v (setup by-class size count)
+  -- refused, all four lent tables are as they came, and the scalars are zeros
+  pub kept : (k : ℕ) → a ≡ refused k → v ≡ zeros lent

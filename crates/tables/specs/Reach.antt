@@ -3,9 +3,9 @@ use mathlib.Core.Path.{_≡_}
 use mathlib.Core.Logic.{_⊎_, _≢_}
 use mathlib.Core.List.{List}
 use Prim.Native.Nat.{ℕ, _%_, _≤_, _<_}
-use lib.ListN.{length, getD}
+use lib.ListN.{length, getD, take, drop}
 use Rattle.tables.specs.Layout.{used, nodesNeeded, pileNeeded}
-use Rattle.tables.specs.Words.{Words, Edition}
+use Rattle.tables.specs.Words.{Words, Edition, withTables}
 
 -- the count is within its limits and the tables are long enough: what an open gate says
 pub record Room (E : Edition) (count nodes pile : ℕ) : Type 0 where
@@ -47,3 +47,20 @@ pub record Agree (n : ℕ) (w v : Words) : Type 0 where
 -- seven
 abbrev pub LeftAlone : ℕ → ℕ → Type 0
 LeftAlone n i = (nodesNeeded n ≤ i) ⊎ ((i ≡ 7) ⊎ ((8 ≤ i) × (i % 8 ≢ used)))
+
+-- the words that they write: record 0's first seven, and the used word of every record below n
+abbrev pub Written : ℕ → ℕ → Type 0
+Written n i = (i < 7) ⊎ ((i < nodesNeeded n) × (i % 8 ≡ used))
+
+-- ---- the same, from the other side: which words exactly these definitions cover, up to the last
+pub record ReachMeans : Type 0 where
+  -- KeptBeyond: the whole rest of each table, from the first word that n records do not need
+  pub kept-nodes : {n : ℕ} {w v : Words} → KeptBeyond n w v → drop (nodesNeeded n) (v .nodes) ≡ drop (nodesNeeded n) (w .nodes)
+  pub kept-pile : {n : ℕ} {w v : Words} → KeptBeyond n w v → drop (pileNeeded n) (v .pile) ≡ drop (pileNeeded n) (w .pile)
+  -- AgreeOn asks no more than that the first k words are the same, and Agree no more than that of the tables
+  pub agree-on : (k : ℕ) (a b : List ℕ) → k ≤ length a → k ≤ length b → take k a ≡ take k b → AgreeOn k a b
+  pub agree : (n : ℕ) (w : Words) (nodes pile : List ℕ) → AgreeOn (nodesNeeded n) (w .nodes) nodes → AgreeOn (pileNeeded n) (w .pile) pile
+      → Agree n w (withTables w nodes pile)
+  -- LeftAlone: each word is left alone or written, and none is both
+  pub one-or-other : (n i : ℕ) → 1 ≤ n → LeftAlone n i ⊎ Written n i
+  pub never-both : (n i : ℕ) → 1 ≤ n → LeftAlone n i → Written n i → ⊥

@@ -6,33 +6,32 @@ use lib.ListN.{getD}
 use lib.Count.{leadingZeros, trailingZeros}
 use Rattle.tables.specs.Layout.{pick}
 
--- no class was found; the bits contradict each other
-abbrev pub noClass : ℕ
-noClass = 256
-
-abbrev pub badBits : ℕ
-badBits = 257
+-- what a search comes to: a class that holds something; none does; or the bits contradict each other
+pub data Found : Type 0 where
+  class-is : (c : ℕ) → Found
+  no-class : Found
+  bad-bits : Found
 
 -- the lowest set bit of a 32-bit word at or above i; 32 where there is none
 unfoldable pub lowFrom : (m i : ℕ) → ℕ
 lowFrom m i = pick (eqb (m / 2 ^ i) 0) 32 (i + trailingZeros 32 (m / 2 ^ i))
 
 -- the lowest class of top bin t, whose leaf byte is m: a byte of 0 under a set top bit is a contradiction
-unfoldable pub leafLow : (t m : ℕ) → ℕ
-leafLow t m = pick (eqb m 0) badBits (8 * t + trailingZeros 32 m)
+unfoldable pub leafLow : (t m : ℕ) → Found
+leafLow t m = pick (eqb m 0) bad-bits (class-is (8 * t + trailingZeros 32 m))
 
 -- the lowest class of top bin t, if there is such a bin
-unfoldable pub lowInBin : (leaves : List ℕ) → (t : ℕ) → ℕ
+unfoldable pub lowInBin : (leaves : List ℕ) → (t : ℕ) → Found
 unfolding leafLow
-lowInBin leaves t = pick (ltb t 32) (leafLow t (getD leaves t 0)) noClass
+lowInBin leaves t = pick (ltb t 32) (leafLow t (getD leaves t 0)) no-class
 
 -- leaf l of top bin t if there is one; otherwise the search goes on at the next top bin, and there from its lowest leaf
-unfoldable pub leafOrAbove : (leaves : List ℕ) → (top t l : ℕ) → ℕ
+unfoldable pub leafOrAbove : (leaves : List ℕ) → (top t l : ℕ) → Found
 unfolding lowInBin lowFrom
-leafOrAbove leaves top t l = pick (ltb l 8) (8 * t + l) (lowInBin leaves (lowFrom top (t + 1)))
+leafOrAbove leaves top t l = pick (ltb l 8) (class-is (8 * t + l)) (lowInBin leaves (lowFrom top (t + 1)))
 
 -- the lowest class from c on that holds something
-unfoldable pub findClass : (leaves : List ℕ) → (top c : ℕ) → ℕ
+unfoldable pub findClass : (leaves : List ℕ) → (top c : ℕ) → Found
 unfolding leafOrAbove lowFrom
 findClass leaves top c = leafOrAbove leaves top (c / 8) (lowFrom (getD leaves (c / 8) 0) (c % 8))
 

@@ -1,5 +1,5 @@
--- Setup and reset on words. They write word 6 of each record below the count, the seven words of record 0, and the pile up to the count;
--- every other word stays as it came. Assumes nothing.
+-- Setup and reset on words. Accepted, they write the head, word 6 of each record below the count, the seven words of record 0, and the pile up to
+-- the count; every other word stays as it came. Refused, they write nothing. Assumes nothing.
 use mathlib.Core.List.{List}
 use Prim.Native.Nat.{ℕ, zero, suc, _-_}
 use lib.ListN.{length, set, replicate}
@@ -41,24 +41,38 @@ fresh E size count nodes pile =
     let w = popPile (blank E size count nodes pile) in
     insert (bounds E w) w size 0 0 (E .none) (E .none)
 
--- the head that a refused setup gives: of zeros, so that every later call on it is refused as 6
-abbrev pub zeros : (nodes pile : List ℕ) → Words
-zeros nodes pile = record {
+-- What is lent to a setup, which takes no head: the places of the head's two arrays, and the two tables.
+pub record Lent : Type 0 where
+  pub heads : List ℕ
+  pub leaves : List ℕ
+  pub nodes : List ℕ
+  pub pile : List ℕ
+
+abbrev pub lentOf : (heads leaves nodes pile : List ℕ) → Lent
+lentOf heads leaves nodes pile = record { heads = heads; leaves = leaves; nodes = nodes; pile = pile }
+
+-- what a refused setup gives: scalars of zeros, so that every later call on them is refused as 6, and all that was lent as it came
+abbrev pub zeros : Lent → Words
+zeros lent = record {
   size = 0;
   count = 0;
   total = 0;
   off = 0;
   top = 0;
-  leaves = replicate 32 0;
-  heads = replicate 256 0;
-  nodes = nodes;
-  pile = pile;
+  leaves = lent .leaves;
+  heads = lent .heads;
+  nodes = lent .nodes;
+  pile = lent .pile;
 }
 
-unfoldable pub setupWords : Edition → (size count : ℕ) → (nodes pile : List ℕ) → Answer × Words
+-- setup by value is lent the tables alone; its arrays begin as zeros, so that refused it gives "one of zeros"
+abbrev pub tablesAlone : (nodes pile : List ℕ) → Lent
+tablesAlone nodes pile = lentOf (replicate 256 0) (replicate 32 0) nodes pile
+
+unfoldable pub setupWords : Edition → (size count : ℕ) → Lent → Answer × Words
 unfolding gated gate fresh
-setupWords E size count nodes pile =
-    gated (gate E 1 count (length nodes) (length pile)) (zeros nodes pile) (done, fresh E size count nodes pile)
+setupWords E size count lent =
+    gated (gate E 1 count (length (lent .nodes)) (length (lent .pile))) (zeros lent) (done, fresh E size count (lent .nodes) (lent .pile))
 
 unfoldable pub resetWords : Edition → Words → Answer × Words
 unfolding gated gateOf fresh

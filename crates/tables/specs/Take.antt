@@ -8,7 +8,7 @@ use Rattle.tables.specs.Layout.{pick, dataOffset, dataSize, binNext, nei
 use Rattle.tables.specs.Words.{Words, Edition, Bounds, bounds, withNodes, withTotal}
 use Rattle.tables.specs.Steps.{insert, unlinkAt, popPile}
 use Rattle.tables.specs.Gate.{gateOf, gated}
-use Rattle.tables.specs.Search.{noClass, findClass}
+use Rattle.tables.specs.Search.{Found, class-is, no-class, bad-bits, findClass}
 
 -- a refusal; or the class and record of a region, its offset, and that its length is just right;
 -- or these with the length of the remainder and the spare record that it takes
@@ -38,10 +38,12 @@ unfolding planRegion
 planRecord w s c r =
     pick (ltb r (w .count)) (planRegion w s c r (word (w .nodes) dataSize r) (word (w .nodes) dataOffset r)) (stop 6)
 
--- there is a class
-unfoldable pub planClass : Words → (s c : ℕ) → TakePlan
+-- there is a class, and the head has a place for it
+unfoldable pub planClass : Words → ℕ → Found → TakePlan
 unfolding planRecord
-planClass w s c = pick (eqb c noClass) (stop 4) (pick (ltb noClass c) (stop 6) (planRecord w s c (getD (w .heads) c 0)))
+planClass w s (class-is c) = pick (ltb c 256) (planRecord w s c (getD (w .heads) c 0)) (stop 6)
+planClass w s no-class = stop 4
+planClass w s bad-bits = stop 6
 
 -- more than one record is spare
 unfoldable pub planTake : Words → ℕ → TakePlan

@@ -27,7 +27,7 @@ pub record Bounds : Type 0 where
 abbrev pub bounds : Edition → Words → Bounds
 bounds E w = record { n = w .count; none = E .none }
 
--- the same words with other nodes, with another total
+-- the same words with other nodes, with another total, with other tables
 abbrev pub withNodes : Words → List ℕ → Words
 withNodes w nodes = record {
   size = w .size;
@@ -52,4 +52,17 @@ withTotal w total = record {
   heads = w .heads;
   nodes = w .nodes;
   pile = w .pile;
+}
+
+abbrev pub withTables : Words → (nodes pile : List ℕ) → Words
+withTables w nodes pile = record {
+  size = w .size;
+  count = w .count;
+  total = w .total;
+  off = w .off;
+  top = w .top;
+  leaves = w .leaves;
+  heads = w .heads;
+  nodes = nodes;
+  pile = pile;
 }

@@ -3,7 +3,6 @@ use mathlib.Core.Path.{_≡_}
 use Prim.Native.Nat.{ℕ, _≤_, _<_}
 use Rattle.ledger.specs.Ledger.{Answer, granted, refused}
 use Rattle.tables.specs.Words.{Words}
-use Rattle.tables.specs.Search.{noClass}
 use Rattle.tables.specs.Calls.{edition32}
 use Rattle.tables.specs.Take.{TakePlan, stop, whole, split, planTake, doTake}
 use Rattle.answers.specs.Refusals.{numberOf}
@@ -26,9 +25,10 @@ planOf (Split c r o rest m) = split c r o rest m
 abbrev pub TakesAsPlanned : ℕ → (w v : Words) → Answer → Type 0
 TakesAsPlanned s w v a = _≡_ {A = Answer × Words} (a, v) (doTake edition32 w s (planTake w s))
 
--- n is the number of what stops a take before it looks at a region of class c, and 0 if nothing does: spares are asked for before fit
+-- n is the number of what stops a take before it looks at a region, and 0 if nothing does: spares are asked for before fit. What the search found is
+-- told by c: a class, 256 for none, 257 for bits that contradict each other (bins/specs: `Tells`)
 pub record StoppedBy (spares c n : ℕ) : Type 0 where
   pub no-spare : spares ≡ 0 → n ≡ 3
-  pub no-class : 1 ≤ spares → c ≡ noClass → n ≡ 4
-  pub bad-bits : 1 ≤ spares → noClass < c → n ≡ 6
-  pub goes-on : 1 ≤ spares → c < noClass → n ≡ 0
+  pub none-found : 1 ≤ spares → c ≡ 256 → n ≡ 4
+  pub contradicted : 1 ≤ spares → 256 < c → n ≡ 6
+  pub goes-on : 1 ≤ spares → c < 256 → n ≡ 0

@@ -4,16 +4,13 @@
 //
 // With an argument long runs are replayed, which tools/long-run pipes in, on tables for 131,072 records, one form at a time, because a stack of
 // 8 MiB does not hold the tables of both: with one argument in place, with two by value.
-mod answer;
-mod by_value;
-mod in_place;
 mod list;
 mod spoiled;
 
-use list::forms::Forms;
 use list::outcome;
 use list::runs;
 use list::runs::Replay;
+use telling::forms::Forms;
 
 // The form that is left out is lent tables of one word, which nothing touches.
 fn replay_in_place(nodes: &mut [u32; 1048576], free_nodes: &mut [u32; 131072]) -> Replay {

@@ -3,11 +3,10 @@
 // run shows it.
 //
 // A round: `spoiling` makes a head with its tables, from `garbage` or from a true store with a few words overwritten; `arguments` draws the
-// calls; `making` makes them, each on a copy; the library `judging` says what came of them and counts it, by `columns`; and `printing` prints it.
+// calls; `calling::copies` makes them, each on a copy; the library `judging` says what came of them and counts it, by `columns`; and `printing` prints it.
 mod arguments;
 mod columns;
 mod garbage;
-mod making;
 mod printing;
 mod rounds;
 mod spoiling;
@@ -18,5 +17,5 @@ const ROUNDS: u32 = 12500;
 const SEED: u32 = 1;
 
 pub fn print() {
-    printing::print(rounds::run(ROUNDS, SEED));
+    rounds::print(ROUNDS, SEED);
 }

@@ -9,6 +9,9 @@ use borrow.Author.Needs.{needs}
 use Rattle.auditing.proofs.audit.Statement.{statement}
 use Rattle.auditing.proofs.audit.Tie as tie
 
+of-head-requires : tie.Need-of-head-requires
+of-head-requires c κs = search needs
+
 test-requires : tie.Need-test-requires
 test-requires c κs = search needs
 
@@ -22,11 +25,13 @@ behind-gate-requires : tie.Need-behind-gate-requires
 behind-gate-requires c κs =
     let told = c .before in
     let tested = told .before .before in
-    let a = tested .before .before .before .before .args in
+    let a = tested .before .before .before .before .before .args in
     has-room (wordsOf (a .t) [] [] (a .nodes .now) (a .free-nodes .now)) (tested .test .ensures) (told .enum-told .given .1)
 
 returns : tie.Need-returns
-returns c = audit-promise edition32 _ _ (shut-out _ _ (c .before .before .before .test .ensures) (c .before .why .given .1))
+returns c =
+    let tested = c .before .before .before in
+    audit-promise edition32 _ _ (tested .before .of-head .ensures _ _) (shut-out _ _ (tested .test .ensures) (c .before .why .given .1))
 
 same-length : tie.Need-same-length
 same-length c = search needs
@@ -34,13 +39,15 @@ same-length c = search needs
 returns-2 : tie.Need-returns-2
 returns-2 c =
     let told = c .before .before .before .before in
-    audit-promise edition32 _ _
-    (let-in _ _ (opened _ (told .before .before .test .ensures) (told .enum-told .given .1)) (c .before .before .behind-gate .ensures))
+    let tested = told .before .before in
+    audit-promise edition32 _ _ (tested .before .of-head .ensures _ _)
+    (let-in _ _ (opened _ (tested .test .ensures) (told .enum-told .given .1)) (c .before .before .behind-gate .ensures))
 
 pub audit-spec : {M : Type 1} → statement M
 audit-spec =
     tie.close
     (tie.spec
+    of-head-requires
     test-requires
     enum-known-why
     enum-told

@@ -1,5 +1,8 @@
 -- Shut out by the gate, or started afresh. Assumes nothing.
-use mathlib.Core.Path.{_∙_}
+use mathlib.Core.Path.{sym, ap, subst, _∙_}
+use native.Mathlib.Omega.{arith}
+use Prim.Native.Nat.{ℕ}
+use Rattle.tables.specs.Setup.{lentOf, fresh}
 use Rattle.tables.specs.Calls.{edition32}
 use Rattle.tables.proofs.Promise.{setup-promise}
 use Rattle.starting.proofs.Walk.{setup-shut, setup-room, setup-open}
@@ -7,14 +10,17 @@ use borrow.Author.Needs.{needs}
 use Rattle.starting.proofs.with_max_allocs.Statement.{statement}
 use Rattle.starting.proofs.with_max_allocs.Tie as tie
 
+units-of-requires : tie.Need-units-of-requires
+units-of-requires c κs = search needs
+
 test-requires : tie.Need-test-requires
 test-requires c κs = search needs
 
 enum-known-why : tie.Need-enum-known-why
 enum-known-why c = search needs
 
-leave-zeros-requires : tie.Need-leave-zeros-requires
-leave-zeros-requires c κs = search needs
+leave-all-requires : tie.Need-leave-all-requires
+leave-all-requires c κs = search needs
 
 enum-told : tie.Need-enum-told
 enum-told c = search needs
@@ -23,8 +29,9 @@ start-afresh-requires : tie.Need-start-afresh-requires
 start-afresh-requires c κs =
     let told = c .before .before .before .before in
     let tested = told .before .before in
-    let a = tested .before .before .before .before .before .args in
-    let room = setup-room (a .size .0) (a .max-allocs) (a .nodes .now) (a .free-nodes .now) (tested .test .ensures) (told .enum-told .given .1) in
+    let a = tested .before .before .before .before .before .before .args in
+    let room = setup-room (a .size .0) (a .max-allocs)
+    (lentOf (a .bin-indices .now) (a .used-bins .now) (a .nodes .now) (a .free-nodes .now)) (tested .test .ensures) (told .enum-told .given .1) in
     (room .count-low, (room .nodes-room, room .pile-room))
 
 same-length : tie.Need-same-length
@@ -37,8 +44,9 @@ returns : tie.Need-returns
 returns c =
     let found = c .before .before .before .before in
     let tested = found .before .before in
-    setup-promise edition32 _ _ _ _
-    (c .leave-zeros .ensures _ _ ∙ setup-shut _ _ _ _ (tested .test .ensures) (found .why .given .1))
+    let measured = tested .before .before .before in
+    setup-promise edition32 _ _ _ (omega (arith, measured .units-of .ensures, measured .units-of .ok))
+    (c .leave-all .ensures _ _ ∙ setup-shut _ _ _ (tested .test .ensures) (found .why .given .1))
 
 same-length-3 : tie.Need-same-length-3
 same-length-3 c = search needs
@@ -51,16 +59,21 @@ returns-2 c =
     let begun = c .before .before .before .before in
     let told = begun .before .before .before .before .before in
     let tested = told .before .before in
-    setup-promise edition32 _ _ _ _
-    (setup-open _ _ _ _ (tested .test .ensures) (told .enum-told .given .1) (begun .start-afresh .ensures))
+    let measured = tested .before .before .before in
+    let a = measured .before .before .before .args in
+    setup-promise edition32 (a .size .0) _ _ (omega (arith, measured .units-of .ensures, measured .units-of .ok))
+    (setup-open (a .size .0) _ _ (tested .test .ensures) (told .enum-told .given .1)
+    (begun .start-afresh .ensures
+    ∙ ap (λ (n : ℕ). fresh edition32 n (a .max-allocs) (a .nodes .now) (a .free-nodes .now)) (measured .units-of .ensures)))
 
 pub with-max-allocs-spec : {M : Type 1} → statement M
 with-max-allocs-spec =
     tie.close
     (tie.spec
+    units-of-requires
     test-requires
     enum-known-why
-    leave-zeros-requires
+    leave-all-requires
     enum-told
     start-afresh-requires
     same-length

@@ -1,16 +1,16 @@
 // The list of runs, replayed: each row's call is made in place and by value, or in one of the forms, each on tables of its own, and a row agrees only
 // if every form that is made answers as it says.
-use crate::by_value;
-use crate::in_place;
-use crate::list::forms::Forms;
-use crate::list::rows;
 use bins::totals::Totals;
+use calling::by_value;
+use calling::in_place;
 use judging::call::Call;
 use libc::STDIN_FILENO;
 use offset_allocator::head::Head;
 use replay::rows::Reader;
 use replay::tally::Tally;
-use replay::tally::Verdict;
+use telling::forms::Forms;
+use telling::full;
+use telling::rows;
 
 // The list read so far, the tally of its rows, how many classes of a full report came just before, and what each form keeps beside its arrays
 // and tables.
@@ -44,26 +44,6 @@ fn begin(forms: Forms) -> Replay {
     }
 }
 
-// A full report is a row for each class that holds something, one after the other; then a row that says how many they were.
-fn classes_after(row: Reader, classes: u32) -> u32 {
-    if row.letter == b'g' {
-        if classes < 256 {
-            return classes + 1;
-        }
-    }
-    0
-}
-
-// So a class that the list leaves out shows at the report's last row.
-fn whole_report(row: Reader, classes: u32, verdict: Verdict) -> Verdict {
-    if row.letter == b'e' {
-        if row.d != classes {
-            return Verdict::Differs;
-        }
-    }
-    verdict
-}
-
 // What both forms answered to the row's call, held against the row and counted.
 fn count(replay: Replay, call: Call, placed: in_place::Called, valued: by_value::Called) -> Replay {
     let row = replay.reader;
@@ -73,14 +53,14 @@ fn count(replay: Replay, call: Call, placed: in_place::Called, valued: by_value:
     let by_value = valued.answer;
     let first = replay::calls::judge(row, rows::said(call, in_place));
     let second = replay::calls::judge(row, rows::said(call, by_value));
-    let verdict = whole_report(row, replay.classes, forms.verdict(first, second));
+    let verdict = full::whole_report(row, replay.classes, forms.verdict(first, second));
     let totals = placed.totals;
     let head = valued.head;
     Replay {
         forms,
         reader: row,
         tally: tally.count(verdict),
-        classes: classes_after(row, replay.classes),
+        classes: full::classes_after(row, replay.classes),
         totals,
         head,
     }

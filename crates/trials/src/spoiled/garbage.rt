@@ -1,4 +1,5 @@
 // Words, bytes and scalars that are drawn: at random, or so that links often name a record and now and then lead nowhere.
+ghost use Prim.Native.Nat.{_≤_};
 use bins::nodes::NONE;
 use bins::totals::Totals;
 use judging::store::RECORDS;
@@ -78,7 +79,9 @@ pub fn count(seed: u32) -> u32 {
 }
 
 // From 2 to 16, which the tables have room for; 16 every other time.
-pub fn good_count(seed: u32) -> u32 {
+pub fn good_count(seed: u32) -> u32
+    ensures { λ r. ⌜ (2 ≤ r) × (r ≤ 16) ⌝ }
+{
     if draws::below(seed, 2) == 0 {
         return RECORDS;
     }

@@ -1,8 +1,9 @@
 // A round: one head with its tables, spoiled, and every call made on it in both forms.
 use crate::spoiled::arguments;
 use crate::spoiled::columns;
-use crate::spoiled::making;
+use crate::spoiled::printing;
 use crate::spoiled::spoiling;
+use calling::copies;
 use judging::audits;
 use judging::audits::Audited;
 use judging::call::Call;
@@ -17,8 +18,15 @@ struct Round {
     on_sound: bool,
 }
 
-fn count_form(tally: Tally, line: u32, call: Call, round: Round, made: Made) -> Tally {
-    let before = round.before;
+// One form of a call, which was lent these words.
+fn count_form(
+    tally: Tally,
+    line: u32,
+    call: Call,
+    round: Round,
+    before: Store,
+    made: Made,
+) -> Tally {
     let answer = made.answer;
     let t = before.totals;
     tally.count(
@@ -29,14 +37,24 @@ fn count_form(tally: Tally, line: u32, call: Call, round: Round, made: Made) -> 
     )
 }
 
+// The form in place that the one by value is compared with. By value a setup is lent no arrays, but begins with its own, of zeros: so it is one in place
+// that is lent such.
+fn alike_in_place(call: Call, lent: Store, placed: Made) -> Made {
+    if checks::is_setup(call) {
+        return copies::in_place(call, lent);
+    }
+    placed
+}
+
 // Both forms of a call, each on its own copy.
 fn make_call(tally: Tally, line: u32, call: Call, round: Round) -> Tally {
     let before = round.before;
-    let placed = making::in_place(call, before);
-    let valued = making::by_value(call, before);
-    let first = count_form(tally, line, call, round, placed);
-    let both = count_form(first, line, call, round, valued);
-    both.compare(checks::differ(placed, valued))
+    let placed = copies::in_place(call, before);
+    let first = count_form(tally, line, call, round, before, placed);
+    let lent = checks::lent_by_value(call, before);
+    let valued = copies::by_value(call, before);
+    let both = count_form(first, line, call, round, lent, valued);
+    both.compare(checks::differ(alike_in_place(call, lent, placed), valued))
 }
 
 fn count_audit(tally: Tally, round: Round, audited: Audited) -> Tally {
@@ -54,8 +72,8 @@ fn count_audit(tally: Tally, round: Round, audited: Audited) -> Tally {
 // Both forms of the audit.
 fn make_audit(tally: Tally, round: Round) -> Tally {
     let before = round.before;
-    let placed = making::audit_in_place(before);
-    let valued = making::audit_by_value(before);
+    let placed = copies::audit_in_place(before);
+    let valued = copies::audit_by_value(before);
     let first = count_audit(tally, round, placed);
     let both = count_audit(first, round, valued);
     both.compare(audits::differ(placed, valued))
@@ -74,7 +92,7 @@ fn make_calls(tally: Tally, round: Round, seed: u32) -> Tally {
 }
 
 fn is_sound(store: Store) -> bool {
-    let audited = making::audit_in_place(store);
+    let audited = copies::audit_in_place(store);
     let made = audited.made;
     let answer = made.answer;
     columns::column(answer, false) == 0
@@ -89,7 +107,7 @@ fn begin(seed: u32) -> Round {
 }
 
 // So many rounds, each with tables of its own.
-pub fn run(rounds: u32, seed: u32) -> Tally {
+fn run(rounds: u32, seed: u32) -> Tally {
     let mut tally = Tally::new();
     let mut i = 0u32;
     while i < rounds {
@@ -98,4 +116,9 @@ pub fn run(rounds: u32, seed: u32) -> Tally {
         tally = make_calls(tally, begin(drawn), draws::next(drawn));
     }
     tally
+}
+
+// The rounds, and what came of them.
+pub fn print(rounds: u32, seed: u32) {
+    printing::print(run(rounds, seed));
 }

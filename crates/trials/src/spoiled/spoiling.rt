@@ -1,7 +1,7 @@
 // Heads and tables that are not sound, each from a seed: at random, of likely links, or a true store of which a few words are overwritten.
 use crate::spoiled::garbage;
-use crate::spoiled::making;
 use bins::totals::Totals;
+use calling::copies;
 use judging::call::Call;
 use judging::store::Store;
 
@@ -75,14 +75,14 @@ fn step(seed: u32, size: u32) -> Call {
 fn sound(seed: u32) -> Store {
     let size = draws::below(draws::branch(seed, 1), 65536);
     let set_up = Call::SetUp(size, garbage::good_count(draws::branch(seed, 2)));
-    let first = making::in_place(set_up, blank());
+    let first = copies::in_place(set_up, blank());
     let mut store = first.after;
     let steps = draws::below(draws::branch(seed, 3), 16);
     let stem = draws::branch(seed, 4);
     let mut i = 0u32;
     while i < steps {
         i += 1;
-        let made = making::in_place(step(draws::branch(stem, i), size), store);
+        let made = copies::in_place(step(draws::branch(stem, i), size), store);
         store = made.after;
     }
     store

@@ -15,7 +15,7 @@ report-leaf-requires c κs = search needs
 
 returns : tie.Need-returns
 unfolding reportTop reportLeaf reportClass
-returns c = rw (c .report-leaf .ensures, c .before .wide .ensures)
+returns c = rw (c .report-leaf .ensures, c .before .wide .ensures .0)
 
 pub report-top-spec : {M : Type 1} → statement M
 report-top-spec =

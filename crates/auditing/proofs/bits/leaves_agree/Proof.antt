@@ -36,7 +36,7 @@ returns c =
     let k = c .before .before .before .before .before in
     let turn : k .loop .t < 32 = omega arith in
     sym (k .loop .inv .1 ∙ leaf-stop edition32 _ _ _ turn
-    (λ e. c .if1 .taken (c .before .before .wide .ensures ∙ e ∙ sym (c .before .leaf-of .ensures))))
+    (λ e. c .if1 .taken (c .before .before .wide .ensures .0 ∙ e ∙ sym (c .before .leaf-of .ensures))))
 
 add-t : tie.Need-add-t Inv-loop μ-loop
 add-t c = omega arith
@@ -50,7 +50,7 @@ loop-again c =
     let turn : k .loop .t < 32 = omega arith in (
       omega arith,
       k .loop .inv .1 ∙ leaf-turn edition32 _ _ _ turn
-          (sym (c .before .before .wide .ensures) ∙ c .if1 .left ∙ c .before .leaf-of .ensures),
+          (sym (c .before .before .wide .ensures .0) ∙ c .if1 .left ∙ c .before .leaf-of .ensures),
     )
 
 returns-2 : tie.Need-returns-2 Inv-loop μ-loop

@@ -1,4 +1,5 @@
 -- By the test that the model makes too. Assumes nothing.
+use mathlib.Core.Bool.{and-true}
 use borrow.Author.Tests.{eq-eqb, ne-eqb}
 use Rattle.auditing.specs.Chain.{goodUsed}
 use Rattle.auditing.proofs.chain.good_used.Statement.{statement}
@@ -10,7 +11,7 @@ returns c = rw (eq-eqb _ _ (c .if1 .taken))
 
 returns-2 : tie.Need-returns-2
 unfolding goodUsed
-returns-2 c = rw (ne-eqb _ _ (c .if1 .left))
+returns-2 c = rw (ne-eqb _ _ (c .if1 .left), and-true)
 
 pub good-used-spec : {M : Type 1} → statement M
 good-used-spec = tie.close (tie.spec returns returns-2)

@@ -1,4 +1,9 @@
--- By the tests that the model makes too. Assumes nothing.
+-- By the tests that the model makes too. What a test has found is a fact on numbers, so that a test which finds less fails at that fact.
+-- Assumes nothing.
+use mathlib.Core.Path.{_≡_}
+use mathlib.Core.Logic.{_≢_}
+use mathlib.Core.Bool.{and-false}
+use native.Mathlib.Omega.{arith}
 use borrow.Author.Tests.{lt-ltb, le-ltb, eq-eqb, ne-eqb}
 use Rattle.auditing.specs.Lists.{goodMember}
 use borrow.Author.Needs.{needs}
@@ -14,37 +19,24 @@ marked-requires c κs = search needs
 
 returns-2 : tie.Need-returns-2
 unfolding goodMember
-returns-2 c = rw (lt-ltb _ _ (c .before .before .if1 .left), ← (c .before .marked .ensures), ne-eqb _ _ (c .if2 .taken))
+returns-2 c = rw (← (c .before .marked .ensures), ne-eqb _ _ (c .if2 .taken), and-false)
 
 word-requires : tie.Need-word-requires
 word-requires c κs = search needs
 
 returns-3 : tie.Need-returns-3
 unfolding goodMember
-returns-3 c = rw (
-  lt-ltb _ _ (c .before .before .before .before .before .if1 .left),
-  ← (c .before .before .before .before .marked .ensures),
-  eq-eqb _ _ (c .before .before .before .if2 .left),
-  ← (c .before .before .word .ensures),
-  ne-eqb _ _ (c .if3 .taken),
-)
+returns-3 c =
+    let a = c .before .before .before .before .before .before .before .args in
+    let astray : c .before .word .result ≢ a .m .prev = omega (arith, c .if3 .taken) in
+    rw (← (c .before .word .ensures), ne-eqb _ _ astray, and-false)
 
 word-requires-2 : tie.Need-word-requires-2
 word-requires-2 c κs = search needs
 
 returns-4 : tie.Need-returns-4
 unfolding goodMember
-returns-4 c =
-    let d = c .before .before in
-    rw (
-      lt-ltb _ _ (d .before .before .before .before .before .if1 .left),
-      ← (d .before .before .before .before .marked .ensures),
-      eq-eqb _ _ (d .before .before .before .if2 .left),
-      ← (d .before .before .word .ensures),
-      eq-eqb _ _ (d .if3 .left),
-      ← (c .before .word2 .ensures),
-      ne-eqb _ _ (c .if4 .taken),
-    )
+returns-4 c = rw (← (c .before .word2 .ensures), ne-eqb _ _ (c .if4 .taken), and-false)
 
 word-requires-3 : tie.Need-word-requires-3
 word-requires-3 c κs = search needs
@@ -57,12 +49,14 @@ unfolding goodMember
 returns-5 c =
     let e = c .before .before .before in
     let d = e .before .before in
+    let a = d .before .before .before .before .before .before .before .args in
+    let joined : d .before .word .result ≡ a .m .prev = omega (arith, d .if3 .left) in
     rw (
-      lt-ltb _ _ (d .before .before .before .before .before .if1 .left),
-      ← (d .before .before .before .before .marked .ensures),
-      eq-eqb _ _ (d .before .before .before .if2 .left),
-      ← (d .before .before .word .ensures),
-      eq-eqb _ _ (d .if3 .left),
+      lt-ltb _ _ (d .before .before .before .before .if1 .left),
+      ← (d .before .before .before .marked .ensures),
+      eq-eqb _ _ (d .before .before .if2 .left),
+      ← (d .before .word .ensures),
+      eq-eqb _ _ joined,
       ← (e .before .word2 .ensures),
       eq-eqb _ _ (e .if4 .left),
       ← (c .before .before .word3 .ensures),

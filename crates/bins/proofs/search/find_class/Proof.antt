@@ -1,4 +1,6 @@
 -- The code is `findClass`. Assumes nothing.
+use mathlib.Core.Path.{refl}
+use native.Mathlib.Omega.{arith}
 use borrow.Author.Tests.{lt-ltb, le-ltb}
 use Rattle.tables.specs.Search.{leafOrAbove, findClass}
 use borrow.Author.Needs.{needs}
@@ -27,7 +29,7 @@ returns : tie.Need-returns
 unfolding findClass leafOrAbove
 returns c =
     let leaf = c .before in
-    rw (← (leaf .before .wide .ensures), ← (leaf .lowest-bit-set-from .ensures .0), lt-ltb _ _ (c .if1 .taken))
+    rw (← (leaf .before .wide .ensures .0), ← (leaf .lowest-bit-set-from .ensures .0), lt-ltb _ _ (c .if1 .taken)) (refl, omega arith)
 
 lowest-above-requires : tie.Need-lowest-above-requires
 lowest-above-requires c κs = search needs
@@ -37,12 +39,8 @@ unfolding findClass leafOrAbove
 returns-2 c =
     let test = c .before in
     let leaf = test .before in
-    rw (
-      c .lowest-above .ensures,
-      ← (leaf .before .wide .ensures),
-      ← (leaf .lowest-bit-set-from .ensures .0),
-      le-ltb _ _ (test .if1 .left),
-    )
+    rw (← (leaf .before .wide .ensures .0), ← (leaf .lowest-bit-set-from .ensures .0), le-ltb _ _ (test .if1 .left))
+    (c .lowest-above .ensures)
 
 pub find-class-spec : {M : Type 1} → statement M
 find-class-spec =

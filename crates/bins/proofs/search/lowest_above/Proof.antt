@@ -1,12 +1,14 @@
 -- The code is `lowInBin`, at the next top bin that holds something. Assumes nothing.
-use mathlib.Core.Path.{_≡_}
+use mathlib.Core.Path.{_≡_, refl}
 use mathlib.Core.Bool.{false}
 use Prim.Native.Nat.{ℕ}
 use native.Mathlib.Nat.{div-one, zero-add}
+use native.Mathlib.Omega.{arith}
 use lib.Dec.{eqb}
 use lib.Count.{trailingZeros}
 use borrow.Author.Tests.{lt-ltb, le-ltb, eq-eqb, ne-eqb}
 use Rattle.tables.specs.Search.{lowFrom, leafLow, lowInBin}
+use Rattle.tables.proofs.MaskEnds.{trailing-below}
 use borrow.Author.Needs.{needs}
 use Rattle.bins.proofs.search.lowest_above.Statement.{statement}
 use Rattle.bins.proofs.search.lowest_above.Tie as tie
@@ -38,9 +40,9 @@ returns c =
     rw (
       ← (bin .before .lowest-bit-set-from .ensures .0),
       lt-ltb _ _ (bin .if1 .taken),
-      ← (c .before .wide .ensures),
+      ← (c .before .wide .ensures .0),
       eq-eqb _ _ (c .if2 .taken),
-    )
+    ) refl
 
 mul-result : tie.Need-mul-result
 mul-result c = search needs
@@ -57,18 +59,19 @@ returns-2 c =
     let some = c .before in
     let bin = some .before .before .before in
     let set = ne-eqb _ _ (some .if2 .left) in
+    let leaf = trailing-below 8 32 (some .before .wide .result) (omega arith) (omega (arith, some .if2 .left)) (some .before .wide .ensures .1) in
     rw (
       c .lowest-bit-set-from2 .ensures .0,
       from-leaf-0 _ set,
       ← (bin .before .lowest-bit-set-from .ensures .0),
       lt-ltb _ _ (bin .if1 .taken),
-      ← (some .before .wide .ensures),
+      ← (some .before .wide .ensures .0),
       set,
-    )
+    ) (refl, omega (arith, leaf, bin .if1 .taken))
 
 returns-3 : tie.Need-returns-3
 unfolding lowInBin
-returns-3 c = rw (← (c .before .lowest-bit-set-from .ensures .0), le-ltb _ _ (c .if1 .left))
+returns-3 c = rw (← (c .before .lowest-bit-set-from .ensures .0), le-ltb _ _ (c .if1 .left)) refl
 
 pub lowest-above-spec : {M : Type 1} → statement M
 lowest-above-spec =

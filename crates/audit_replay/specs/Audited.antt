@@ -1,0 +1,104 @@
+-- What a row that audits is held against: the number of the audit of the store as it is lent. Assumes nothing.
+use Prim.Native.Nat.{ℕ}
+use mathlib.Core.Path.{_≡_}
+use mathlib.Core.Bool.{Bool}
+use mathlib.Core.List.{List}
+use lib.Dec.{eqb, ltb}
+use lib.ListN.{length, take, set, replicate}
+use Rattle.ledger.specs.Ledger as ledger
+use Rattle.tables.specs.Layout.{pick}
+use Rattle.tables.specs.Words.{Words}
+use Rattle.tables.specs.Calls.{edition32}
+use Rattle.bins.specs.InWords.{wordsOf}
+use Rattle.bins.specs.declared.totals.Totals.{Totals}
+use Rattle.auditing.specs.Audit.{auditWords}
+use Rattle.replay.specs.declared.tally.Verdict.{Verdict}
+use Rattle.replay.specs.declared.tally.Verdict.the-variants.{Agrees, Differs}
+use Rattle.audit_replay.specs.declared.state.State.{State}
+
+-- before the list's first store
+abbrev pub noStore : State
+noStore = record {
+  totals = record { size = 0; «max_allocs» = 0; «free_storage» = 0; «free_offset» = 0; «used_bins_top» = 0 };
+  nodes = 0;
+  pile = 0;
+  scratch = 0;
+}
+
+-- 0 for yes, or the refusal's number; an audit gives no other answer
+abbrev pub numberIn : ledger.Answer → ℕ
+numberIn (ledger.granted offset number) = 0
+numberIn ledger.done = 0
+numberIn (ledger.length-is length) = 0
+numberIn (ledger.reported total largest) = 0
+numberIn (ledger.classes report) = 0
+numberIn (ledger.refused number) = number
+
+-- the number of no answer, where an array is shorter than it is to be lent
+abbrev pub noAudit : ℕ
+noAudit = 4294967295
+
+-- the audit of the tables, each as long as it is lent
+abbrev pub lentNumber : State → (heads leaves nodes pile scratch : List ℕ) → ℕ
+lentNumber s heads leaves nodes pile scratch =
+    numberIn (auditWords edition32 (wordsOf (s .totals) heads leaves (take (s .nodes) nodes) (take (s .pile) pile)) (take (s .scratch) scratch) .0)
+
+unfoldable pub numberWith : State → (heads leaves nodes pile scratch : List ℕ) → ℕ
+numberWith s heads leaves nodes pile scratch =
+    pick (ltb (length nodes) (s .nodes)) noAudit
+    (pick (ltb (length pile) (s .pile)) noAudit
+    (pick (ltb (length scratch) (s .scratch)) noAudit (lentNumber s heads leaves nodes pile scratch)))
+
+-- the scratch holds 7 in each of its 16 words
+abbrev pub auditNumber : State → (heads leaves nodes pile : List ℕ) → ℕ
+auditNumber s heads leaves nodes pile = numberWith s heads leaves nodes pile (replicate 16 7)
+
+-- a row agrees only if the number that it says was found
+abbrev pub OnlyIf : Verdict → (said found : ℕ) → Type 0
+OnlyIf v said found = v ≡ Agrees → said ≡ found
+
+-- a word that has no place differs from every list
+abbrev pub placedIf : Bool → Verdict
+placedIf has-place = pick has-place Agrees Differs
+
+-- the scalars in the order of their declaration; another index changes none
+unfoldable pub totalPut : Totals → (i v : ℕ) → Totals
+totalPut t i v =
+    pick (eqb i 0) (record {
+      size = v;
+      «max_allocs» = t .«max_allocs»;
+      «free_storage» = t .«free_storage»;
+      «free_offset» = t .«free_offset»;
+      «used_bins_top» = t .«used_bins_top»;
+    })
+    (pick (eqb i 1) (record {
+      size = t .size;
+      «max_allocs» = v;
+      «free_storage» = t .«free_storage»;
+      «free_offset» = t .«free_offset»;
+      «used_bins_top» = t .«used_bins_top»;
+    })
+    (pick (eqb i 2) (record {
+      size = t .size;
+      «max_allocs» = t .«max_allocs»;
+      «free_storage» = v;
+      «free_offset» = t .«free_offset»;
+      «used_bins_top» = t .«used_bins_top»;
+    })
+    (pick (eqb i 3) (record {
+      size = t .size;
+      «max_allocs» = t .«max_allocs»;
+      «free_storage» = t .«free_storage»;
+      «free_offset» = v;
+      «used_bins_top» = t .«used_bins_top»;
+    })
+    (pick (eqb i 4) (record {
+      size = t .size;
+      «max_allocs» = t .«max_allocs»;
+      «free_storage» = t .«free_storage»;
+      «free_offset» = t .«free_offset»;
+      «used_bins_top» = v;
+    }) t))))
+
+abbrev pub statePut : State → (i v : ℕ) → State
+statePut s i v = record { totals = totalPut (s .totals) i v; nodes = s .nodes; pile = s .pile; scratch = s .scratch }

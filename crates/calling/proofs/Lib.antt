@@ -1,0 +1,3 @@
+-- Told: from a promise and what was told of it to what a call made. OnCopies: the same of a store that was copied.
+pub mod Told
+pub mod OnCopies

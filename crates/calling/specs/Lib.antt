@@ -1,0 +1,2 @@
+-- Made: what a call is answered and leaves.
+pub mod Made

@@ -1,0 +1,90 @@
+-- The number and the figures of what a call on a ledger in order answers. Assumes nothing.
+use mathlib.Core.Path.{_≡_, refl, sym, ap, _∙_}
+use Prim.Native.Nat.{ℕ, zero, suc, _+_}
+use native.Mathlib.Omega.{arith}
+use mathlib.Core.Logic.{_↔_, _≢_}
+use mathlib.Core.List.{List, [], _∷_, map}
+use lib.ListN.{length, replicate, length-map}
+use Rattle.basics.proofs.Clash.{clash}
+use Rattle.ledger.specs.Ledger.{Engine, Ledger, Stacks, by-class, Answer, granted, done, length-is, reported, classes, refused}
+use Rattle.ledger.specs.Ledger.{numbersFrom, fullAt, fullOf, take, handBack, sizeOf}
+use Rattle.ledger.specs.Laws.{Laws}
+use Rattle.ledger.specs.Calls.{Call, Take, HandBack, SizeOf, Report, FullReport, Reset, answer}
+use Rattle.ledger.specs.Figures.{refusalOf, figureCount, inARow, figuresOf}
+use Rattle.ledger.specs.WellFormed.{WellFormed}
+use Rattle.ledger.specs.Claims.{CanRefuse, too-few-spares, none-reaches, not-live, unknown}
+use Rattle.ledger.proofs.Numbers.{length-numbersFrom}
+use Rattle.ledger.proofs.Cases.{TakeCase, few-spares, no-region, serves, take-case, LiveCase, is-live, live-case}
+use Rattle.ledger.proofs.Cases as case
+use Rattle.ledger.proofs.Refusals.{no-other}
+use Rattle.ledger.proofs.ByClass.{class-laws}
+
+-- ---- of any answer
+named : (a : Answer) (k : ℕ) → refusalOf a ≡ k → k ≢ 0 → a ≡ refused k
+named (granted o r) k e h = absurd (h (sym e))
+named done k e h = absurd (h (sym e))
+named (length-is n) k e h = absurd (h (sym e))
+named (reported n m) k e h = absurd (h (sym e))
+named (classes rows) k e h = absurd (h (sym e))
+named (refused n) k e h = ap refused e
+
+zeros : (c : Call) (a : Answer) → refusalOf a ≢ 0 → figuresOf c a ≡ replicate (figureCount c) 0
+zeros c (granted o r) h = absurd (h refl)
+zeros c done h = absurd (h refl)
+zeros c (length-is n) h = absurd (h refl)
+zeros c (reported n m) h = absurd (h refl)
+zeros c (classes rows) h = absurd (h refl)
+zeros c (refused k) h = refl
+
+-- ---- of a call on a ledger in order
+number-not-0 : {c : Call} {k : ℕ} → CanRefuse c k → k ≢ 0
+number-not-0 too-few-spares e = omega arith
+number-not-0 none-reaches e = omega arith
+number-not-0 not-live e = omega arith
+number-not-0 unknown e = omega arith
+
+module _ (E : Engine) (laws : Laws E) (size count : ℕ) where
+  pub number-tells : (c : Call) (k : ℕ) (l : Ledger (E .Index)) → WellFormed E size count l
+      → (answer E size count c l .0 ≡ refused k) ↔ ((refusalOf (answer E size count c l .0) ≡ k) × (k ≢ 0))
+  number-tells c k l w = (
+    λ e. (ap (λ a. refusalOf a) e, number-not-0 (no-other E laws size count c k l w e)),
+    λ x. named (answer E size count c l .0) k (x .0) (x .1),
+  )
+
+  pub figures-of-0 : (c : Call) (l : Ledger (E .Index)) → refusalOf (answer E size count c l .0) ≢ 0
+      → figuresOf c (answer E size count c l .0) ≡ replicate (figureCount c) 0
+  figures-of-0 c l h = zeros c (answer E size count c l .0) h
+
+in-a-row : (rows : List (ℕ × ℕ)) → length (inARow rows) ≡ length rows + length rows
+unfolding inARow
+in-a-row [] = refl
+in-a-row (x ∷ rows) = omega (arith, in-a-row rows)
+
+module _ (size count : ℕ) where
+  pub figures-all : (c : Call) (l : Ledger Stacks) → WellFormed by-class size count l
+      → length (figuresOf c (answer by-class size count c l .0)) ≡ figureCount c
+  unfolding answer fullOf
+  figures-all (Take s) l w = go (take-case by-class class-laws w s)
+    where
+      go : TakeCase by-class s l → length (figuresOf (Take s) (take by-class s l .0)) ≡ 2
+      go (few-spares h e) = rw e
+      go (no-region h empty e) = rw e
+      go (serves t) = rw (t .outcome)
+  figures-all (HandBack r) l w = go (live-case by-class w r)
+    where
+      go : LiveCase by-class r l → length (figuresOf (HandBack r) (handBack by-class r l .0)) ≡ 0
+      go (case.not-live h e q) = rw e
+      go (is-live n before after b e q) = rw e
+  figures-all (SizeOf r) l w = go (live-case by-class w r)
+    where
+      go : LiveCase by-class r l → length (figuresOf (SizeOf r) (sizeOf r l)) ≡ 1
+      go (case.not-live h e q) = rw q
+      go (is-live n before after b e q) = rw q
+  figures-all Report l w = refl
+  figures-all FullReport l w = omega (
+    arith,
+    in-a-row (map (fullAt (l .index)) (numbersFrom 0 256)),
+    length-map (numbersFrom 0 256) (fullAt (l .index)),
+    length-numbersFrom 256 0,
+  )
+  figures-all Reset l w = refl

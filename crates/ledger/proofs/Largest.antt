@@ -1,0 +1,53 @@
+-- The report's second number by classes, and the classes that do not reach a request. Assumes nothing.
+use mathlib.Core.Path.{_≡_, ap, _∙_}
+use Prim.Native.Nat.{ℕ, _^_, _≤_, _<_}
+use native.Mathlib.Omega.{arith}
+use mathlib.Core.Logic.{_↔_, _≢_}
+use mathlib.Core.List.{List, [], _∷_}
+use lib.ListN.{length}
+use Rattle.basics.proofs.Clash.{clash}
+use Rattle.basics.proofs.Decided.{same, differ, same?, below, beyond, below?}
+use Rattle.small_float.specs.Class.{down, up, value, classesInUse}
+use Rattle.small_float.proofs.Rounding.{down-most}
+use Rattle.ledger.specs.Ledger.{Ledger, Stacks, by-class, free, len, highest, report}
+use Rattle.ledger.specs.WellFormed.{WellFormed}
+use Rattle.ledger.specs.Spans.{At}
+use Rattle.ledger.specs.Claims.{NoneReaches}
+use Rattle.ledger.proofs.Places.{at-weighs}
+use Rattle.ledger.proofs.Searches.{Highest, all-empty, highest-is, highest?}
+use Rattle.ledger.proofs.ByClass.{class-laws, held}
+use Rattle.ledger.proofs.ReportRule.{report-largest}
+
+pub none-reaches-by-class : (s : ℕ) (l : Ledger Stacks)
+    → NoneReaches by-class s l ↔ ((n r o : ℕ) → At (free n r) o (l .line) → down n < up s)
+none-reaches-by-class s l = (λ none n r o a. none n (o, r, a), λ none n f. none n (f .1) (f .0) (f .2))
+
+pub largest-none : (l : Ledger Stacks) → 2 ≤ length (l .pile) → ((c : ℕ) → l .index c ≡ []) → report by-class l .1 ≡ 0
+largest-none l two empty = report-largest by-class class-laws l two ∙ go (highest? (l .index) classesInUse)
+  where
+    go : Highest (l .index) classesInUse → highest (l .index) classesInUse ≡ 0
+    go (all-empty m e) = m
+    go (highest-is d r under m h top e) = let none : l .index d ≡ [] = empty d in clash (cc)
+
+module _ (size count : ℕ) (small : size < 2 ^ 32) where
+  pub largest-is : (l : Ledger Stacks) → WellFormed by-class size count l → 2 ≤ length (l .pile)
+      → (c : ℕ) → l .index c ≢ [] → ((d : ℕ) → c < d → l .index d ≡ []) → report by-class l .1 ≡ value c
+  largest-is l w two c some-there none-above = report-largest by-class class-laws l two ∙ go (highest? (l .index) classesInUse)
+    where
+      -- a class in whose stack something stands is one of those in use
+      in-use : (stack : List ℕ) → l .index c ≡ stack → c < classesInUse
+      in-use [] e = absurd (some-there e)
+      in-use (r ∷ under) e =
+          let t = held (l .line) (l .index) (w .kept) c r under e in
+          omega (arith, down-most (t .n) (omega (arith, at-weighs (t .there) len, w .lined .cover)), t .class-is)
+
+      go : Highest (l .index) classesInUse → highest (l .index) classesInUse ≡ value c
+      go (all-empty m empty) = absurd (some-there (empty c (in-use (l .index c) (λ i. l .index c))))
+      go (highest-is d r under m h top empty) =
+          elim (same? d c) [
+            | same k e ↦ m ∙ ap value k
+            | differ k e ↦ elim (below? d c) [
+              | below i f ↦ absurd (some-there (empty c i (in-use (l .index c) (λ j. l .index c))))
+              | beyond i f ↦ let none : l .index d ≡ [] = none-above d (omega arith) in clash (cc)
+            ]
+          ]

@@ -1,0 +1,216 @@
+-- The words of the claims mean what specs/Meanings.antt says. Assumes nothing.
+use mathlib.Core.Path.{_≡_, refl, sym, ap, subst, fun-ext}
+use Prim.Native.Nat.{ℕ, _+_, _≤_, _<_}
+use native.Mathlib.Omega.{arith}
+use mathlib.Core.Bool.{cond}
+use mathlib.Core.Logic.{_↔_, _⊎_, inl, inr, _≢_}
+use mathlib.Core.List.{List, [], _∷_, _++_}
+use lib.ListN.{length, getD}
+use lib.Dec.{eqb}
+use Rattle.basics.specs.Sum.{tally}
+use Rattle.basics.proofs.Clash.{clash}
+use Rattle.small_float.specs.Class.{down}
+use Rattle.basics.proofs.Decided.{Same, same, differ, same?, Below, below, beyond, below?}
+use Rattle.ledger.specs.Ledger.{Region, live, free, len, Stacks, onTop, numbersFrom, Answer, granted, done, refused}
+use Rattle.ledger.specs.Calls.{Call, Take, HandBack, SizeOf, Report, FullReport, Reset, Event, event}
+use Rattle.ledger.specs.Spans.{At, first, later, FreeIn, Among, Disjoint, Leaves, AllLeave}
+use Rattle.ledger.specs.History.{Span, note, liveOne}
+use Rattle.ledger.specs.Stretch.{Question, size-query, short-report, full-report, Stretch, ended, grants, returns, refuses, asks}
+use Rattle.ledger.specs.Claims.{CanRefuse, too-few-spares, none-reaches, not-live, unknown}
+use Rattle.ledger.specs.Claims.{NoneOrFree, none-there, one-there, Remainder, nothing-left, next-record, OnTop}
+use Rattle.ledger.specs.Meanings.{liveRecords, Inside, Meanings}
+use Rattle.ledger.proofs.Places.{Where, here, further, where?, at-none, at-front, at-exactly, split}
+use Rattle.ledger.proofs.Numbers.{length-numbersFrom, numbers-each}
+
+-- ---- where a region stands
+free-in-exactly : (n : ℕ) (line : List Region)
+    → FreeIn n line ↔ ((r : ℕ) × (front : List Region) × (back : List Region) × (line ≡ front ++ (free n r ∷ back)))
+free-in-exactly n line = (
+  λ f. let t = split (f .2) in (f .1, t .0, t .1, t .2),
+  λ t. (tally len (t .1), t .0, rw (t .3) (at-front (t .1) (free n (t .0)) (t .2))),
+)
+
+-- ---- intervals
+no-address-in-both : (o n p m : ℕ) → Disjoint o n p m → (a : ℕ) → Inside a o n → ¬ Inside a p m
+no-address-in-both o n p m (inl h) a i j = omega (arith, i .1, j .0)
+no-address-in-both o n p m (inr h) a i j = omega (arith, i .0, j .1)
+
+no-empty-one-within : (o p m : ℕ) → Disjoint o 0 p m → p < o → p + m ≤ o
+no-empty-one-within o p m (inl h) k = absurd (omega arith)
+no-empty-one-within o p m (inr h) k = h
+
+disjoint-both-ways : (o n p m : ℕ) → Disjoint o n p m → Disjoint p m o n
+disjoint-both-ways o n p m (inl h) = inr h
+disjoint-both-ways o n p m (inr h) = inl h
+
+apart-by-address : (o n p m : ℕ) → 1 ≤ n → 1 ≤ m → ((a : ℕ) → Inside a o n → ¬ Inside a p m) → Disjoint o n p m
+apart-by-address o n p m h k none = go (below? o p)
+  where
+    go : Below o p → Disjoint o n p m
+    go (below a e) = elim (below? p (o + n)) [
+      | below b f ↦ absurd (none p (omega arith, b) (omega arith, omega arith))
+      | beyond b f ↦ inl b
+    ]
+    go (beyond a e) = elim (below? o (p + m)) [
+      | below b f ↦ absurd (none o (omega arith, omega arith) (a, b))
+      | beyond b f ↦ inr b
+    ]
+
+-- ---- calls that leave r
+leaves-exactly : (r : ℕ) (c : Call) → Leaves r c ↔ ((c ≢ HandBack r) × (c ≢ Reset))
+leaves-exactly r (Take s) = (λ h. (λ e. clash (cc), λ e. clash (cc)), λ h. tt)
+leaves-exactly r (HandBack q) = (
+  λ h. (λ e. let number : q ≡ r = cc in h number, λ e. clash (cc)),
+  λ h e. h .0 (ap HandBack e),
+)
+leaves-exactly r (SizeOf q) = (λ h. (λ e. clash (cc), λ e. clash (cc)), λ h. tt)
+leaves-exactly r Report = (λ h. (λ e. clash (cc), λ e. clash (cc)), λ h. tt)
+leaves-exactly r FullReport = (λ h. (λ e. clash (cc), λ e. clash (cc)), λ h. tt)
+leaves-exactly r Reset = (λ h. absurd h, λ h. h .1 refl)
+
+abbrev EachLeaves : ℕ → List Call → Type 0
+EachLeaves r cs = (before after : List Call) (c : Call) → cs ≡ before ++ (c ∷ after) → (c ≢ HandBack r) × (c ≢ Reset)
+
+each-leaves : (r : ℕ) (cs : List Call) → AllLeave r cs → EachLeaves r cs
+each-leaves r [] h [] after c e = clash (cc)
+each-leaves r [] h (b ∷ before) after c e = clash (cc)
+each-leaves r (x ∷ cs) h [] after c e = let it-is : x ≡ c = cc in subst (λ y. (y ≢ HandBack r) × (y ≢ Reset)) it-is (leaves-exactly r x .0 (h .0))
+each-leaves r (x ∷ cs) h (b ∷ before) after c e = let rest : cs ≡ before ++ (c ∷ after) = cc in each-leaves r cs (h .1) before after c rest
+
+all-leave : (r : ℕ) (cs : List Call) → EachLeaves r cs → AllLeave r cs
+all-leave r [] h = tt
+all-leave r (x ∷ cs) h = (
+  leaves-exactly r x .1 (h [] cs x refl),
+  all-leave r cs (λ before after c e. h (x ∷ before) after c (ap {B = List Call} (λ xs. x ∷ xs) e)),
+)
+
+-- ---- a stretch
+may-end : (own : List ℕ) → Stretch own [] ↔ (own ≡ [])
+may-end own = (nothing-owed own, λ e. rw e ended)
+  where
+    nothing-owed : (xs : List ℕ) → Stretch xs [] → xs ≡ []
+    nothing-owed xs ended = refl
+
+-- ---- what stands beside a region, what is left of one, what goes on top
+one-or-none : {xs : List Region} → NoneOrFree xs → (xs ≡ []) ⊎ ((n : ℕ) × (r : ℕ) × (xs ≡ free n r ∷ []))
+one-or-none none-there = inl refl
+one-or-none (one-there n r) = inr (n, r, refl)
+
+none-or-free : (xs : List Region) → NoneOrFree xs ↔ ((xs ≡ []) ⊎ ((n : ℕ) × (r : ℕ) × (xs ≡ free n r ∷ [])))
+none-or-free xs = (one-or-none, elim [ inl e ↦ rw e none-there | inr x ↦ rw (x .2) (one-there (x .0) (x .1)) ])
+
+remainder-of-0 : (pile : List ℕ) (xs : List Region) (rest : List ℕ) → Remainder 0 pile xs rest → (xs ≡ []) × (rest ≡ pile)
+remainder-of-0 pile xs rest (nothing-left e) = (refl, refl)
+remainder-of-0 pile xs rest (next-record q others h e) = absurd (omega arith)
+
+remainder-above-0 : (left : ℕ) (pile : List ℕ) (xs : List Region) (rest : List ℕ) → 1 ≤ left → Remainder left pile xs rest
+    → (q : ℕ) × (pile ≡ q ∷ rest) × (xs ≡ free left q ∷ [])
+remainder-above-0 left pile xs rest k (nothing-left e) = absurd (omega arith)
+remainder-above-0 left pile xs rest k (next-record q others h e) = (q, e, refl)
+
+one-on-top : (n r : ℕ) (before after : Stacks) → OnTop (free n r ∷ []) before after → after ≡ onTop (down n) r before
+unfolding onTop
+one-on-top n r before after h = fun-ext (λ c. go c (same? c (down n)))
+  where
+    go : (c : ℕ) → Same c (down n) → after c ≡ cond (eqb c (down n)) (r ∷ before c) (before c)
+    go c (same p e) = rw (e, p) (h .0)
+    go c (differ p e) = rw e (h .1 c p)
+
+-- ---- live regions
+live-counted : (line : List Region) → tally liveOne line ≡ length (liveRecords line)
+unfolding liveRecords
+live-counted [] = refl
+live-counted (live n r ∷ rest) = omega (arith, live-counted rest)
+live-counted (free n r ∷ rest) = omega (arith, live-counted rest)
+
+listed-live : (r : ℕ) (line : List Region) → Among r (liveRecords line) → (n : ℕ) × (o : ℕ) × At (live n r) o line
+unfolding liveRecords
+listed-live r [] ([], back, e) = clash (cc)
+listed-live r [] (x ∷ front, back, e) = clash (cc)
+listed-live r (live n q ∷ rest) ([], back, e) = let number : q ≡ r = cc in (n, 0, rw number first)
+listed-live r (live n q ∷ rest) (x ∷ front, back, e) =
+    let behind : liveRecords rest ≡ front ++ (r ∷ back) = cc in
+    let t = listed-live r rest (front, back, behind) in
+    (t .0, n + t .1, later {y = live n q} (t .2))
+listed-live r (free n q ∷ rest) a = let t = listed-live r rest a in (t .0, n + t .1, later {y = free n q} (t .2))
+
+live-listed : (r : ℕ) (line : List Region) (n o : ℕ) → At (live n r) o line → Among r (liveRecords line)
+unfolding liveRecords
+live-listed r [] n o a = absurd (at-none a)
+live-listed r (live m q ∷ rest) n o a = go (where? a) (live-listed r rest n)
+  where
+    go : Where (live n r) o (live m q) rest → ((p : ℕ) → At (live n r) p rest → Among r (liveRecords rest)) → Among r (q ∷ liveRecords rest)
+    go (here e z) behind = let number : r ≡ q = cc in ([], liveRecords rest, rw number)
+    go (further p z b) behind = let t = behind p b in (q ∷ t .0, t .1, ap {B = List ℕ} (λ xs. q ∷ xs) (t .2))
+live-listed r (free m q ∷ rest) n o a = go (where? a) (live-listed r rest n)
+  where
+    go : Where (live n r) o (free m q) rest → ((p : ℕ) → At (live n r) p rest → Among r (liveRecords rest)) → Among r (liveRecords rest)
+    go (here e z) behind = clash (cc)
+    go (further p z b) behind = behind p b
+
+-- ---- refusals
+of-take : {s k : ℕ} → CanRefuse (Take s) k → (k ≡ 3) ⊎ (k ≡ 4)
+of-take too-few-spares = inl refl
+of-take none-reaches = inr refl
+
+of-hand-back : {r k : ℕ} → CanRefuse (HandBack r) k → k ≡ 5
+of-hand-back not-live = refl
+
+of-size : {r k : ℕ} → CanRefuse (SizeOf r) k → k ≡ 5
+of-size unknown = refl
+
+take-refusals : (s k : ℕ) → CanRefuse (Take s) k ↔ ((k ≡ 3) ⊎ (k ≡ 4))
+take-refusals s k = (of-take, elim [ inl e ↦ rw e too-few-spares | inr e ↦ rw e none-reaches ])
+
+no-refusals : (k : ℕ) → (¬ CanRefuse Report k) × (¬ CanRefuse FullReport k) × (¬ CanRefuse Reset k)
+no-refusals k = (elim [ ], elim [ ], elim [ ])
+
+-- ---- the history
+refusal-notes-nothing : (c : Call) (k : ℕ) (out : List Span) → note (event c (refused k)) out ≡ out
+unfolding note
+refusal-notes-nothing (Take s) k out = refl
+refusal-notes-nothing (HandBack r) k out = refl
+refusal-notes-nothing (SizeOf r) k out = refl
+refusal-notes-nothing Report k out = refl
+refusal-notes-nothing FullReport k out = refl
+refusal-notes-nothing Reset k out = refl
+
+question-notes-nothing : (c : Call) (a : Answer) (out : List Span) → Question c → note (event c a) out ≡ out
+unfolding note
+question-notes-nothing (SizeOf r) a out size-query = refl
+question-notes-nothing Report a out short-report = refl
+question-notes-nothing FullReport a out full-report = refl
+
+pub meanings : Meanings
+meanings = record {
+  at-exactly = at-exactly;
+  free-in-exactly = free-in-exactly;
+  no-address-in-both = no-address-in-both;
+  no-empty-one-within = no-empty-one-within;
+  disjoint-both-ways = disjoint-both-ways;
+  apart-by-address = apart-by-address;
+  leaves-exactly = leaves-exactly;
+  all-leave-exactly = λ r cs. (each-leaves r cs, all-leave r cs);
+  may-grant = λ own es s o r h. grants h;
+  may-return = λ own es r h. returns h;
+  may-refuse = λ own es c k h. refuses h;
+  may-ask-size = λ own es r a h. asks size-query h;
+  may-ask-report = λ own es a h. asks short-report h;
+  may-ask-full-report = λ own es a h. asks full-report h;
+  may-end = may-end;
+  none-or-free = none-or-free;
+  remainder-of-0 = remainder-of-0;
+  remainder-above-0 = remainder-above-0;
+  nothing-on-top = λ before after h. fun-ext h;
+  one-on-top = one-on-top;
+  live-counted = live-counted;
+  live-records = λ r line. (listed-live r line, λ x. live-listed r line (x .0) (x .1) (x .2));
+  take-refusals = take-refusals;
+  hand-back-refusals = λ r k. (of-hand-back, λ e. rw e not-live);
+  size-refusals = λ r k. (of-size, λ e. rw e unknown);
+  no-refusals = no-refusals;
+  numbers-many = λ r n. length-numbersFrom n r;
+  numbers-each = numbers-each;
+  refusal-notes-nothing = refusal-notes-nothing;
+  question-notes-nothing = question-notes-nothing;
+}

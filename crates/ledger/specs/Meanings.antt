@@ -1,0 +1,72 @@
+-- What the words mean in which the claims speak, told from the other side, so that none of them can say less than it seems to: one record, which
+-- proofs/Meanings.antt makes. Assumes nothing.
+use mathlib.Core.Path.{_≡_}
+use Prim.Native.Nat.{ℕ, _+_, _≤_, _<_}
+use mathlib.Core.Logic.{_↔_, _⊎_, _≢_}
+use mathlib.Core.List.{List, [], _∷_, _++_}
+use lib.ListN.{length, getD}
+use Rattle.basics.specs.Sum.{tally}
+use Rattle.small_float.specs.Class.{down}
+use Rattle.ledger.specs.Ledger.{Region, live, free, len, Stacks, onTop, numbersFrom, Answer, granted, done, refused}
+use Rattle.ledger.specs.Calls.{Call, Take, HandBack, SizeOf, Report, FullReport, Reset, Event, event}
+use Rattle.ledger.specs.Spans.{At, FreeIn, Among, Disjoint, Leaves, AllLeave}
+use Rattle.ledger.specs.History.{Span, note, liveOne}
+use Rattle.ledger.specs.Stretch.{Question, Stretch}
+use Rattle.ledger.specs.Claims.{CanRefuse, NoneOrFree, Remainder, OnTop}
+
+-- the records of the live regions, in the line's order
+unfoldable pub liveRecords : List Region → List ℕ
+liveRecords [] = []
+liveRecords (live n r ∷ rest) = r ∷ liveRecords rest
+liveRecords (free n r ∷ rest) = liveRecords rest
+
+-- the address a lies in the interval [o, o + n)
+abbrev pub Inside : ℕ → ℕ → ℕ → Type 0
+Inside a o n = (o ≤ a) × (a < o + n)
+
+pub record Meanings : Type 0 where
+  -- ---- where a region stands: the line is what stands before it, it, and what stands after it; its offset is the sum of the lengths before it
+  pub at-exactly : (x : Region) (o : ℕ) (line : List Region)
+      → At x o line ↔ ((front : List Region) × (back : List Region) × (line ≡ front ++ (x ∷ back)) × (o ≡ tally len front))
+  pub free-in-exactly : (n : ℕ) (line : List Region)
+      → FreeIn n line ↔ ((r : ℕ) × (front : List Region) × (back : List Region) × (line ≡ front ++ (free n r ∷ back)))
+  -- ---- intervals that do not overlap: no address lies in both, and an empty one does not lie within the other; of two that are not empty the
+  -- addresses decide
+  pub no-address-in-both : (o n p m : ℕ) → Disjoint o n p m → (a : ℕ) → Inside a o n → ¬ Inside a p m
+  pub no-empty-one-within : (o p m : ℕ) → Disjoint o 0 p m → p < o → p + m ≤ o
+  pub disjoint-both-ways : (o n p m : ℕ) → Disjoint o n p m → Disjoint p m o n
+  pub apart-by-address : (o n p m : ℕ) → 1 ≤ n → 1 ≤ m → ((a : ℕ) → Inside a o n → ¬ Inside a p m) → Disjoint o n p m
+  -- ---- calls that leave r: all but a hand-back of r and a reset
+  pub leaves-exactly : (r : ℕ) (c : Call) → Leaves r c ↔ ((c ≢ HandBack r) × (c ≢ Reset))
+  pub all-leave-exactly : (r : ℕ) (cs : List Call)
+      → AllLeave r cs ↔ ((before after : List Call) (c : Call) → cs ≡ before ++ (c ∷ after) → (c ≢ HandBack r) × (c ≢ Reset))
+  -- ---- a stretch may begin with any grant, the return of the last granted, any refused call and any question, however it is answered
+  pub may-grant : (own : List ℕ) (es : List Event) (s o r : ℕ) → Stretch (r ∷ own) es → Stretch own (event (Take s) (granted o r) ∷ es)
+  pub may-return : (own : List ℕ) (es : List Event) (r : ℕ) → Stretch own es → Stretch (r ∷ own) (event (HandBack r) done ∷ es)
+  pub may-refuse : (own : List ℕ) (es : List Event) (c : Call) (k : ℕ) → Stretch own es → Stretch own (event c (refused k) ∷ es)
+  pub may-ask-size : (own : List ℕ) (es : List Event) (r : ℕ) (a : Answer) → Stretch own es → Stretch own (event (SizeOf r) a ∷ es)
+  pub may-ask-report : (own : List ℕ) (es : List Event) (a : Answer) → Stretch own es → Stretch own (event Report a ∷ es)
+  pub may-ask-full-report : (own : List ℕ) (es : List Event) (a : Answer) → Stretch own es → Stretch own (event FullReport a ∷ es)
+  -- it ends where nothing is owed
+  pub may-end : (own : List ℕ) → Stretch own [] ↔ (own ≡ [])
+  -- ---- what stands beside a region that is handed back, what is left of one that is granted, and what goes on top of its class
+  pub none-or-free : (xs : List Region) → NoneOrFree xs ↔ ((xs ≡ []) ⊎ ((n : ℕ) × (r : ℕ) × (xs ≡ free n r ∷ [])))
+  pub remainder-of-0 : (pile : List ℕ) (xs : List Region) (rest : List ℕ) → Remainder 0 pile xs rest → (xs ≡ []) × (rest ≡ pile)
+  pub remainder-above-0 : (left : ℕ) (pile : List ℕ) (xs : List Region) (rest : List ℕ) → 1 ≤ left → Remainder left pile xs rest
+      → (q : ℕ) × (pile ≡ q ∷ rest) × (xs ≡ free left q ∷ [])
+  pub nothing-on-top : (before after : Stacks) → OnTop [] before after → after ≡ before
+  pub one-on-top : (n r : ℕ) (before after : Stacks) → OnTop (free n r ∷ []) before after → after ≡ onTop (down n) r before
+  -- ---- the number of live regions is the number of their records, and r is one of them exactly if a live region has it
+  pub live-counted : (line : List Region) → tally liveOne line ≡ length (liveRecords line)
+  pub live-records : (r : ℕ) (line : List Region) → Among r (liveRecords line) ↔ ((n : ℕ) × (o : ℕ) × At (live n r) o line)
+  -- ---- which numbers a call can be refused with
+  pub take-refusals : (s k : ℕ) → CanRefuse (Take s) k ↔ ((k ≡ 3) ⊎ (k ≡ 4))
+  pub hand-back-refusals : (r k : ℕ) → CanRefuse (HandBack r) k ↔ (k ≡ 5)
+  pub size-refusals : (r k : ℕ) → CanRefuse (SizeOf r) k ↔ (k ≡ 5)
+  pub no-refusals : (k : ℕ) → (¬ CanRefuse Report k) × (¬ CanRefuse FullReport k) × (¬ CanRefuse Reset k)
+  -- ---- the n numbers from r on: n of them, the i-th of which is r + i
+  pub numbers-many : (r n : ℕ) → length (numbersFrom r n) ≡ n
+  pub numbers-each : (r n i : ℕ) → i < n → getD (numbersFrom r n) i 0 ≡ r + i
+  -- ---- the history: a refused call, a reset among them, and a question leave the spans that are out
+  pub refusal-notes-nothing : (c : Call) (k : ℕ) (out : List Span) → note (event c (refused k)) out ≡ out
+  pub question-notes-nothing : (c : Call) (a : Answer) (out : List Span) → Question c → note (event c a) out ≡ out

@@ -1,0 +1,42 @@
+-- Every number has a text, and every row of numbers; and what a tally that adds up tells. Assumes nothing.
+use Prim.Native.Nat.{ℕ, zero, suc, _+_, _*_, _/_, _%_, _^_, _≤_, _<_}
+use mathlib.Core.Path.{_≡_, refl, sym, ap, subst}
+use mathlib.Core.List.{List, [], _∷_, _++_, append-assoc, append-nil}
+use native.Mathlib.Omega.{arith}
+use lib.ListN.{length, getD}
+use Rattle.basics.proofs.Decided.{Below, below, beyond, below?}
+use Rattle.replay.specs.declared.tally.Tally.{Tally}
+use Rattle.replay.specs.Facts.{Decimal, one-digit, digit-more, Numbers, none, number-more, Written, RowWritten, AddsUp}
+
+-- the digits before the last, then the last
+longer : (n : ℕ) → Written (n / 10) → Written n
+longer n w =
+    let whole : 10 * (n / 10) + n % 10 ≡ n = omega arith in
+    subst (λ (m : ℕ). Written m) whole record { text = w .text ++ ((48 + n % 10) ∷ []); decimal = digit-more (w .decimal) (omega arith) }
+
+written-to : (most n : ℕ) → n ≤ most → Written n
+written-to zero n h = record { text = (48 + n) ∷ []; decimal = one-digit {k = n} (omega arith) }
+written-to (suc most) n h = elim (below? n 10) [
+  | below p e ↦ record { text = (48 + n) ∷ []; decimal = one-digit {k = n} p }
+  | beyond p e ↦ longer n (written-to most (n / 10) (omega arith))
+]
+
+pub number-written : (n : ℕ) → Written n
+number-written n = written-to n n (omega arith)
+
+-- the numbers ms after those that are written
+more-written : {text ns : List ℕ} → Numbers text ns → (ms : List ℕ) → ((i : ℕ) → i < length ms → getD ms i 0 < 2 ^ 32) → RowWritten (ns ++ ms)
+more-written {text} {ns} p [] h = subst (λ (l : List ℕ). RowWritten l) (sym (append-nil ns)) record { text = text; numbers = p }
+more-written {text} {ns} p (m ∷ ms) h =
+    let w = number-written m in
+    let next = number-more p (w .decimal) (h 0 (omega arith)) in
+    subst (λ (l : List ℕ). RowWritten l) (append-assoc ns (m ∷ []) ms) (more-written next ms (λ i inside. h (suc i) (omega arith)))
+
+pub row-written : (ns : List ℕ) → ((i : ℕ) → i < length ns → getD ns i 0 < 2 ^ 32) → RowWritten ns
+row-written ns h = more-written none ns h
+
+pub hides-none : (t : Tally) → AddsUp t → t .first ≡ 0 → t .agreed + t .listed ≡ t .rows
+hides-none t a e = omega (arith, a .sum, a .named .0 e)
+
+pub names-none : (t : Tally) → AddsUp t → t .agreed + t .listed ≡ t .rows → t .first ≡ 0
+names-none t a e = a .named .1 (omega (arith, a .sum))
