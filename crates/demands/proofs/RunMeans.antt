@@ -5,7 +5,7 @@ use Prim.Native.Nat.{ℕ, _^_, _<_}
 use native.Mathlib.Omega.{arith}
 use lib.ListN.{length, replicate, length-replicate}
 use Rattle.ledger.specs.Ledger.{Answer, refused}
-use Rattle.ledger.specs.Calls.{Call}
+use Rattle.ledger.specs.Calls.{Call, Event, event}
 use Rattle.tables.specs.Words.{Words, Edition}
 use Rattle.tables.specs.Setup.{Lent, lentOf, setupWords}
 use Rattle.tables.specs.Calls.{answerWords}
@@ -16,7 +16,7 @@ use Rattle.auditing.specs.Audit.{auditWords}
 use Rattle.auditing.specs.Claims.{OfHead}
 use Rattle.auditing.proofs.Promise.{audit-promise}
 use Rattle.demands.specs.Runs.{Asked, Calling, Auditing, SettingUp, Done, did, LentFrom, Step, called, audited, set-up, Run, nothing, then}
-use Rattle.demands.specs.Runs.{NoSetup, askedOf, SizesFit, Asking, RunMeans}
+use Rattle.demands.specs.Runs.{NoSetup, askedOf, answersOf, callsOf, logOf, SizesFit, Asking, RunMeans}
 
 -- the words w as a setup in place is lent them
 abbrev lent-by : Words → Lent
@@ -114,6 +114,29 @@ only-setup (did (Auditing k) b ∷ ds) h =
     only-setup ds (λ before after size count a e. h (did (Auditing k) b ∷ before) after size count a (ap (λ (xs : List Done). did (Auditing k) b ∷ xs) e))
 only-setup (did (SettingUp s k) b ∷ ds) h = h [] ds s k b refl
 
+-- ---- what is told of a run leaves out nothing
+every-answer : (before after : List Done) (q : Asked) (a : Answer)
+    → answersOf (before ++ (did q a ∷ after)) ≡ answersOf before ++ (a ∷ answersOf after)
+unfolding answersOf
+every-answer [] after q a = refl
+every-answer (did p b ∷ before) after q a = ap (λ (xs : List Answer). b ∷ xs) (every-answer before after q a)
+
+every-call : (before after : List Done) (c : Call) (a : Answer)
+    → callsOf (before ++ (did (Calling c) a ∷ after)) ≡ callsOf before ++ (c ∷ callsOf after)
+unfolding callsOf
+every-call [] after c a = refl
+every-call (did (Calling d) b ∷ before) after c a = ap (λ (xs : List Call). d ∷ xs) (every-call before after c a)
+every-call (did (Auditing n) b ∷ before) after c a = every-call before after c a
+every-call (did (SettingUp s k) b ∷ before) after c a = every-call before after c a
+
+every-event : (before after : List Done) (c : Call) (a : Answer)
+    → logOf (before ++ (did (Calling c) a ∷ after)) ≡ logOf before ++ (event c a ∷ logOf after)
+unfolding logOf
+every-event [] after c a = refl
+every-event (did (Calling d) b ∷ before) after c a = ap (λ (xs : List Event). event d b ∷ xs) (every-event before after c a)
+every-event (did (Auditing n) b ∷ before) after c a = every-event before after c a
+every-event (did (SettingUp s k) b ∷ before) after c a = every-event before after c a
+
 pub run-means : (E : Edition) → RunMeans E
 run-means E = record {
   every-run = every-run E;
@@ -122,4 +145,7 @@ run-means E = record {
   setup-answered = setup-answered E;
   no-setup = no-setup;
   only-setup = only-setup;
+  every-answer = every-answer;
+  every-call = every-call;
+  every-event = every-event;
 }

@@ -99,3 +99,10 @@ pub record RunMeans (E : Edition) : Type 0 where
   pub no-setup : (before after : List Done) (size count : ℕ) (a : Answer) → NoSetup (before ++ (did (SettingUp size count) a ∷ after)) → ⊥
   pub only-setup : (ds : List Done)
       → ((before after : List Done) (size count : ℕ) (a : Answer) → ds ≡ before ++ (did (SettingUp size count) a ∷ after) → ⊥) → NoSetup ds
+  -- every answer is told, and every call with its event, each in its place: so none can be left out of what the demands compare
+  pub every-answer : (before after : List Done) (q : Asked) (a : Answer)
+      → answersOf (before ++ (did q a ∷ after)) ≡ answersOf before ++ (a ∷ answersOf after)
+  pub every-call : (before after : List Done) (c : Call) (a : Answer)
+      → callsOf (before ++ (did (Calling c) a ∷ after)) ≡ callsOf before ++ (c ∷ callsOf after)
+  pub every-event : (before after : List Done) (c : Call) (a : Answer)
+      → logOf (before ++ (did (Calling c) a ∷ after)) ≡ logOf before ++ (event c a ∷ logOf after)
