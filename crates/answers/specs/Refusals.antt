@@ -1,5 +1,6 @@
 -- Document 01's number for each refusal. (7, of the smallest-store question, is small_float's.) Assumes nothing.
-use Prim.Native.Nat.{ℕ}
+use mathlib.Core.Path.{_≡_}
+use Prim.Native.Nat.{ℕ, _≤_}
 use Rattle.answers.specs.declared.Refusal.{Refusal}
 use Rattle.answers.specs.declared.Refusal.the-variants.{BadCount, TableTooShort, NoSpareRecord, NoRegion, NotLive, Unsound}
 
@@ -10,3 +11,9 @@ numberOf NoSpareRecord = 3
 numberOf NoRegion = 4
 numberOf NotLive = 5
 numberOf Unsound = 6
+
+-- told from the other side, so that a number says which refusal it is; proofs/Numbers.antt makes it
+pub record NumberMeans : Type 0 where
+  pub none-shared : (why other : Refusal) → numberOf why ≡ numberOf other → why ≡ other
+  -- none is 0, by which the gate tells that it is open
+  pub from-1-to-6 : (why : Refusal) → (1 ≤ numberOf why) × (numberOf why ≤ 6)

@@ -1,5 +1,6 @@
 -- What the questions answer, in the ledger's terms. Assumes nothing.
 use mathlib.Core.Path.{_≡_}
+use mathlib.Core.Logic.{_↔_}
 use mathlib.Core.List.{List, map}
 use Prim.Native.Nat.{ℕ}
 use lib.ListN.{getD, replicate}
@@ -27,6 +28,11 @@ Answered a c w = (a, w) ≡ answerWords edition32 c w
 
 abbrev pub Asked : Answer → Call → Words → Type 0
 Asked a c w = Promise edition32 c w w a
+
+-- told from the other side; proofs/Asked.antt makes it
+pub record AskedMeans : Type 0 where
+  -- no answer is promised but the model's, and that one is
+  pub asked-exactly : (a : Answer) (c : Call) (w : Words) → Asked a c w ↔ ((a, w) ≡ answerWords edition32 c w)
 
 -- ---- document 01's number and figures for each answer
 abbrev pub sizeAnswerOf : SizeAnswer → Answer

@@ -57,6 +57,10 @@ auditNumber s heads leaves nodes pile = numberWith s heads leaves nodes pile (re
 abbrev pub OnlyIf : Verdict → (said found : ℕ) → Type 0
 OnlyIf v said found = v ≡ Agrees → said ≡ found
 
+-- from the other side: of a row that agrees it says that very number; proofs/Means.antt makes it
+abbrev pub AgreesTells : Type 0
+AgreesTells = (said found : ℕ) → OnlyIf Agrees said found → said ≡ found
+
 -- a word that has no place differs from every list
 abbrev pub placedIf : Bool → Verdict
 placedIf has-place = pick has-place Agrees Differs

@@ -7,7 +7,7 @@ use Rattle.ledger.specs.Ledger.{Answer}
 use Rattle.tables.specs.Words.{Words, Edition}
 use Rattle.auditing.specs.Audit.{auditWords}
 use Rattle.auditing.specs.Claims.{OfHead}
-use Rattle.auditing.specs.Promise.{AuditPromise}
+use Rattle.auditing.specs.Promise.{AuditPromise, PromiseMeans}
 use Rattle.auditing.proofs.Claims.{claims}
 
 -- what the model leaves is promised
@@ -34,3 +34,9 @@ audit-promise E w scratch H e =
 pub one-audit : (E : Edition) (w : Words) (scratch : List ℕ) {left other : List ℕ} {a b : Answer} → AuditPromise E w scratch left a
     → AuditPromise E w scratch other b → _≡_ {A = Answer × List ℕ} (a, left) (b, other)
 one-audit E w scratch p q = p .exact ∙ sym (q .exact)
+
+-- no more and no less than the model's outcome is promised, of a head's words
+pub promise-means : (E : Edition) → PromiseMeans E
+promise-means E = record {
+  kept-exactly = λ w scratch left a. (λ p. (p .of-head, p .exact), λ k. audit-promise E w scratch (k .0) (k .1));
+}

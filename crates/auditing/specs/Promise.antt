@@ -27,3 +27,9 @@ pub record AuditPromise (E : Edition) (w : Words) (scratch left : List ℕ) (a :
   pub scratch-length : length left ≡ length scratch
   pub scratch-low : AuditRoom E w scratch → (i : ℕ) → i < w .count → getD left i 0 ≡ 0
   pub scratch-beyond : (i : ℕ) → w .count ≤ i → getD left i 0 ≡ getD scratch i 0
+
+-- told from the other side, so that the promise can come to say no less; proofs/Promise.antt makes it
+pub record PromiseMeans (E : Edition) : Type 0 where
+  -- it is kept exactly where the words are a head's, and answer and scratch are the model's
+  pub kept-exactly : (w : Words) (scratch left : List ℕ) (a : Answer)
+      → AuditPromise E w scratch left a ↔ (OfHead w × ((a, left) ≡ auditWords E w scratch))

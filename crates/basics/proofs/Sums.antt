@@ -6,7 +6,7 @@ use mathlib.Core.Bool.{Bool, true, false, _&&_}
 use mathlib.Core.List.{List, [], _∷_, _++_, map, reverseAux}
 use lib.ListN.{length, getD, drop}
 use lib.Dec.{ltb}
-use Rattle.basics.specs.Sum.{one, is, tally}
+use Rattle.basics.specs.Sum.{one, is, tally, SumMeans}
 use Rattle.basics.proofs.Decided.{Same, same, differ, same?, eqb-same, Below, below, beyond, below?}
 
 -- ---- sums
@@ -69,3 +69,12 @@ below-suc i r = go (below? i (suc r)) (below? i r) (same? r i)
 
 pub below-zero : (i : ℕ) → one (ltb i 0) ≡ 0
 below-zero i = elim (below? i 0) [ below h e ↦ absurd (omega arith) | beyond h e ↦ ap one e ]
+
+-- ---- what a sum is, from the other side
+pub sum-means : (A : Type 0) → SumMeans A
+sum-means A = record {
+  of-one = λ f x. omega arith;
+  of-both = λ f front rest. tally-append f front rest;
+  counts-itself = λ r. ap one (eqb-same r);
+  counts-no-other = λ r q other. elim (same? q r) [ same p e ↦ absurd (other p) | differ p e ↦ ap one e ];
+}

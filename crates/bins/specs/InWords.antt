@@ -76,6 +76,11 @@ Tells (class-is c) n = (n ≡ c) × (n < 256)
 Tells no-class n = n ≡ 256
 Tells bad-bits n = n ≡ 257
 
+-- told from the other side: a search has one number, and no two searches that found different things share one; proofs/Told.antt makes it
+pub record TellsMeans : Type 0 where
+  pub one-number : (f : Found) (m n : ℕ) → Tells f m → Tells f n → m ≡ n
+  pub none-shared : (f g : Found) (n : ℕ) → Tells f n → Tells g n → f ≡ g
+
 -- ---- the gate's number: 0 where it is open
 abbrev pub gateNumber : Gate → ℕ
 gateNumber Open = 0

@@ -1,2 +1,2 @@
--- Made: what a call is answered and leaves.
+-- Made: what a call is answered and leaves, and that it is one thing.
 pub mod Made

@@ -60,3 +60,11 @@ pub record AskedOn (before : Store) (scratch : List ℕ) (m : Made) (left : List
 abbrev pub storeOf : Head → (nodes pile : List ℕ) → Store
 storeOf h nodes pile =
     record { totals = totalsOf h; «bin_indices» = h .«bin_indices»; «used_bins» = h .«used_bins»; nodes = nodes; «free_nodes» = pile }
+
+-- ---- so a call and an audit have one outcome: any two that these allow are the same, to the last word. proofs/Once.antt makes it
+pub record OneOutcome : Type 0 where
+  pub of-call : (lends : Words → Lent) (c : Call) (before : Store) (m n : Made) → MadeOn lends c before m → MadeOn lends c before n → m ≡ n
+  pub of-audit : (before : Store) (scratch : List ℕ) (m n : Made) (left right : List ℕ)
+      → AskedOn before scratch m left
+      → AskedOn before scratch n right
+      → (m ≡ n) × (left ≡ right)

@@ -14,15 +14,17 @@ use Rattle.ledger.specs.Claims.{Claims}
 use Rattle.ledger.proofs.Claims as ledger
 use Rattle.ledger.proofs.Records.{all-records}
 use Rattle.tables.specs.Words.{Words, Edition}
+use Rattle.tables.specs.Setup.{setupWords}
 use Rattle.tables.specs.Sound.{Sound}
 use Rattle.tables.specs.Claims.{OneOf}
 use Rattle.tables.specs.Promise.{SetupPromise}
 use Rattle.tables.proofs.Claims as tables
 use Rattle.tables.proofs.Runs.{step-sound}
+use Rattle.tables.proofs.Promise.{setup-promise}
 use Rattle.auditing.specs.Promise.{AuditPromise}
 use Rattle.auditing.proofs.Claims as auditing
 use Rattle.demands.specs.Runs.{Done, did, Auditing, Step, called, audited, set-up, Run, nothing, then, NoSetup, askedOf, answersOf, callsOf, logOf}
-use Rattle.demands.specs.Demands.{Since, Demands, ledgerAfter}
+use Rattle.demands.specs.Demands.{Since, SinceMeans, Demands, ledgerAfter}
 use Rattle.demands.proofs.Twins.{Twin, twins, run-lengths}
 
 module _ (E : Edition) where
@@ -87,6 +89,16 @@ module _ (E : Edition) where
     | inr (inl e) ↦ inl (cc)
     | inr (inr e) ↦ inr (inl (cc))
   ]
+
+pub since-means : (E : Edition) → SinceMeans E
+since-means E = record {
+  begins = λ size count lent small accepted ds now run n. record {
+    lent = lent;
+    accepted = setup-promise E size count lent small (λ i. (sym accepted i, setupWords E size count lent .1));
+    run = run;
+    no-setup = n;
+  };
+}
 
 pub demands : (E : Edition) → Demands E
 demands E = record {

@@ -1,11 +1,11 @@
 -- A run has everything that can be asked, and no answer but the promised one. Assumes nothing.
 use mathlib.Core.Path.{_≡_, refl, sym, ap, subst, _∙_}
-use mathlib.Core.List.{List, [], _∷_, _++_}
+use mathlib.Core.List.{List, [], _∷_, _++_, map}
 use Prim.Native.Nat.{ℕ, _^_, _<_}
 use native.Mathlib.Omega.{arith}
 use lib.ListN.{length, replicate, length-replicate}
 use Rattle.ledger.specs.Ledger.{Answer, refused}
-use Rattle.ledger.specs.Calls.{Call, Event, event}
+use Rattle.ledger.specs.Calls.{Call, Event, event, callOf}
 use Rattle.tables.specs.Words.{Words, Edition}
 use Rattle.tables.specs.Setup.{Lent, lentOf, setupWords}
 use Rattle.tables.specs.Calls.{answerWords}
@@ -16,7 +16,7 @@ use Rattle.auditing.specs.Audit.{auditWords}
 use Rattle.auditing.specs.Claims.{OfHead}
 use Rattle.auditing.proofs.Promise.{audit-promise}
 use Rattle.demands.specs.Runs.{Asked, Calling, Auditing, SettingUp, Done, did, LentFrom, Step, called, audited, set-up, Run, nothing, then}
-use Rattle.demands.specs.Runs.{NoSetup, askedOf, answersOf, callsOf, logOf, SizesFit, Asking, RunMeans}
+use Rattle.demands.specs.Runs.{NoSetup, askedOf, answersOf, callsOf, logOf, SizesFit, RunMeans}
 
 -- the words w as a setup in place is lent them
 abbrev lent-by : Words → Lent
@@ -48,34 +48,43 @@ module _ (E : Edition) where
           let S = tables.claims E .setup-sound size count (lent-by w) small (tables.claims E .setup-done size count (lent-by w) .1 b) in
           record { size-fits = S .size-fits; heads-room = S .heads-room; leaves-room = S .leaves-room }
 
-  every-run : (w : Words) → OfHead w → (qs : List Asked) → SizesFit qs → Asking E w qs
+  -- ---- every step there can be
+  call-step : (c : Call) (w : Words) → Step E w (Calling c) (answerWords E c w .0) (answerWords E c w .1)
+  call-step c w = called (promise E c w refl)
+
+  audit-step : (w : Words) (scratch : List ℕ) → OfHead w → Step E w (Auditing (length scratch)) (auditWords E w scratch .0) w
+  audit-step w scratch h = audited refl (audit-promise E w scratch h refl)
+
+  setup-step : (size count : ℕ) (w : Words) (lent : Lent) → size < 2 ^ 32 → lent .nodes ≡ w .nodes → lent .pile ≡ w .pile
+      → Step E w (SettingUp size count) (setupWords E size count lent .0) (setupWords E size count lent .1)
+  setup-step size count w lent small n p = set-up record { nodes-are = n; pile-are = p } (setup-promise E size count lent small refl)
+
+  every-run : (w : Words) → OfHead w → (qs : List Asked) → SizesFit qs
+      → (ds : List Done) × (u : Words) × Run E w ds u × (askedOf ds ≡ qs)
   unfolding askedOf
-  every-run w h [] f = record { answered = []; left = w; run = nothing; all-asked = refl }
+  every-run w h [] f = ([], w, nothing, refl)
   every-run w h (Calling c ∷ qs) f =
-      let rest = every-run (answerWords E c w .1) (call-head c w h) qs f in
-      record {
-        answered = did (Calling c) (answerWords E c w .0) ∷ rest .answered;
-        left = rest .left;
-        run = then (called (promise E c w refl)) (rest .run);
-        all-asked = ap (λ (xs : List Asked). Calling c ∷ xs) (rest .all-asked);
-      }
+      let rest = every-run (answerWords E c w .1) (call-head c w h) qs f in (
+        did (Calling c) (answerWords E c w .0) ∷ rest .0,
+        rest .1,
+        then (call-step c w) (rest .2),
+        ap (λ (xs : List Asked). Calling c ∷ xs) (rest .3),
+      )
   every-run w h (Auditing n ∷ qs) f =
       let rest = every-run w h qs f in
-      let scratch : List ℕ = replicate n 0 in
-      record {
-        answered = did (Auditing n) (auditWords E w scratch .0) ∷ rest .answered;
-        left = rest .left;
-        run = then (audited (length-replicate {A = ℕ} n 0) (audit-promise E w scratch h refl)) (rest .run);
-        all-asked = ap (λ (xs : List Asked). Auditing n ∷ xs) (rest .all-asked);
-      }
+      let scratch : List ℕ = replicate n 0 in (
+        did (Auditing n) (auditWords E w scratch .0) ∷ rest .0,
+        rest .1,
+        then (audited (length-replicate {A = ℕ} n 0) (audit-promise E w scratch h refl)) (rest .2),
+        ap (λ (xs : List Asked). Auditing n ∷ xs) (rest .3),
+      )
   every-run w h (SettingUp size count ∷ qs) f =
-      let rest = every-run (setupWords E size count (lent-by w) .1) (setup-head size count w (f .0) h) qs (f .1) in
-      record {
-        answered = did (SettingUp size count) (setupWords E size count (lent-by w) .0) ∷ rest .answered;
-        left = rest .left;
-        run = then (set-up record { nodes-are = refl; pile-are = refl } (setup-promise E size count (lent-by w) (f .0) refl)) (rest .run);
-        all-asked = ap (λ (xs : List Asked). SettingUp size count ∷ xs) (rest .all-asked);
-      }
+      let rest = every-run (setupWords E size count (lent-by w) .1) (setup-head size count w (f .0) h) qs (f .1) in (
+        did (SettingUp size count) (setupWords E size count (lent-by w) .0) ∷ rest .0,
+        rest .1,
+        then (setup-step size count w (lent-by w) (f .0) refl refl) (rest .2),
+        ap (λ (xs : List Asked). SettingUp size count ∷ xs) (rest .3),
+      )
 
   -- ---- a step's answer is the model's
   call-answered : {w u : Words} {c : Call} {a : Answer} {ds : List Done} → Run E w (did (Calling c) a ∷ ds) u
@@ -97,6 +106,16 @@ module _ (E : Edition) where
     ap (λ (x : Answer × Words). x .0) (p .exact),
     subst (λ (x : Words). Run E x ds u) (ap (λ (x : Answer × Words). x .1) (p .exact)) rest,
   )
+
+  sizes-fit : {w u : Words} {ds : List Done} → Run E w ds u → SizesFit (askedOf ds)
+  unfolding askedOf
+  sizes-fit nothing = tt
+  sizes-fit (then (called p) rest) = sizes-fit rest
+  sizes-fit (then (audited e p) rest) = sizes-fit rest
+  sizes-fit (then (set-up t p) rest) = (p .size-fits, sizes-fit rest)
+
+  ends-there : {w u : Words} → Run E w [] u → u ≡ w
+  ends-there nothing = refl
 
 -- ---- NoSetup
 no-setup : (before after : List Done) (size count : ℕ) (a : Answer) → NoSetup (before ++ (did (SettingUp size count) a ∷ after)) → ⊥
@@ -137,15 +156,47 @@ every-event (did (Calling d) b ∷ before) after c a = ap (λ (xs : List Event).
 every-event (did (Auditing n) b ∷ before) after c a = every-event before after c a
 every-event (did (SettingUp s k) b ∷ before) after c a = every-event before after c a
 
+every-question : (before after : List Done) (q : Asked) (a : Answer)
+    → askedOf (before ++ (did q a ∷ after)) ≡ askedOf before ++ (q ∷ askedOf after)
+unfolding askedOf
+every-question [] after q a = refl
+every-question (did p b ∷ before) after q a = ap (λ (xs : List Asked). p ∷ xs) (every-question before after q a)
+
+no-other-call : (ds : List Done) → map callOf (logOf ds) ≡ callsOf ds
+unfolding logOf callsOf
+no-other-call [] = refl
+no-other-call (did (Calling c) a ∷ ds) = ap (λ (xs : List Call). c ∷ xs) (no-other-call ds)
+no-other-call (did (Auditing n) a ∷ ds) = no-other-call ds
+no-other-call (did (SettingUp s k) a ∷ ds) = no-other-call ds
+
+calls-alone : (ds : List Done)
+    → ((before after : List Done) (c : Call) (a : Answer) → ds ≡ before ++ (did (Calling c) a ∷ after) → ⊥) → callsOf ds ≡ []
+unfolding callsOf
+calls-alone [] h = refl
+calls-alone (did (Calling c) b ∷ ds) h = absurd (h [] ds c b refl)
+calls-alone (did (Auditing n) b ∷ ds) h =
+    calls-alone ds (λ before after c a e. h (did (Auditing n) b ∷ before) after c a (ap (λ (xs : List Done). did (Auditing n) b ∷ xs) e))
+calls-alone (did (SettingUp s k) b ∷ ds) h =
+    calls-alone ds (λ before after c a e. h (did (SettingUp s k) b ∷ before) after c a (ap (λ (xs : List Done). did (SettingUp s k) b ∷ xs) e))
+
 pub run-means : (E : Edition) → RunMeans E
 run-means E = record {
   every-run = every-run E;
+  call-step = call-step E;
+  audit-step = audit-step E;
+  setup-step = setup-step E;
   call-answered = call-answered E;
   audit-answered = audit-answered E;
   setup-answered = setup-answered E;
+  whole-tables = λ t. (t .nodes-are, t .pile-are);
+  sizes-fit = sizes-fit E;
+  ends-there = ends-there E;
   no-setup = no-setup;
   only-setup = only-setup;
+  every-question = every-question;
   every-answer = every-answer;
   every-call = every-call;
   every-event = every-event;
+  no-other-call = no-other-call;
+  calls-alone = calls-alone;
 }

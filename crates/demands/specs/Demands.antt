@@ -3,14 +3,14 @@
 -- Assumes nothing.
 use mathlib.Core.Path.{_≡_}
 use mathlib.Core.List.{List, [], _∷_}
-use Prim.Native.Nat.{ℕ, _+_, _≤_, _<_}
+use Prim.Native.Nat.{ℕ, _+_, _^_, _≤_, _<_}
 use Rattle.ledger.specs.Ledger.{Ledger, Answer, granted, done, refused, setup, by-class, Stacks}
 use Rattle.ledger.specs.Calls.{Call, Take, end, log}
 use Rattle.ledger.specs.WellFormed.{WellFormed}
 use Rattle.ledger.specs.Claims.{Claims}
 use Rattle.ledger.specs.Stretch.{Stretch}
 use Rattle.tables.specs.Words.{Words, Edition}
-use Rattle.tables.specs.Setup.{Lent}
+use Rattle.tables.specs.Setup.{Lent, setupWords}
 use Rattle.tables.specs.Sound.{Sound}
 use Rattle.tables.specs.Claims.{OneOf, mayGive}
 use Rattle.tables.specs.Promise.{Promise, SetupPromise}
@@ -27,6 +27,11 @@ pub record Since (E : Edition) (size count : ℕ) (at-setup : Words) (ds : List 
   pub accepted : SetupPromise E size count lent at-setup done
   pub run : Run E at-setup ds now
   pub no-setup : NoSetup ds
+
+-- the same, from the other side: every accepted setup begins one, whatever it was lent, and every run from it without a setup is one
+pub record SinceMeans (E : Edition) : Type 0 where
+  pub begins : (size count : ℕ) (lent : Lent) → size < 2 ^ 32 → setupWords E size count lent .0 ≡ done → (ds : List Done) (now : Words)
+      → Run E (setupWords E size count lent .1) ds now → NoSetup ds → Since E size count (setupWords E size count lent .1) ds now
 
 pub record Demands (E : Edition) : Type 0 where
   -- ---- 1. "each call ends with an answer or a numbered refusal": a refusal's number is one of those that document 01 gives for the call

@@ -1,11 +1,11 @@
 -- Runs of the calls in code, told by what their contracts promise and by nothing else. A call in place and the same call by value promise the
 -- same record over the same words, so a step of a run may be either. Assumes nothing.
 use mathlib.Core.Path.{_≡_}
-use mathlib.Core.List.{List, [], _∷_, _++_}
+use mathlib.Core.List.{List, [], _∷_, _++_, map}
 use Prim.Native.Nat.{ℕ, _^_, _<_}
 use lib.ListN.{length}
 use Rattle.ledger.specs.Ledger.{Answer}
-use Rattle.ledger.specs.Calls.{Call, Event, event}
+use Rattle.ledger.specs.Calls.{Call, Event, event, callOf}
 use Rattle.tables.specs.Words.{Words, Edition}
 use Rattle.tables.specs.Setup.{Lent, setupWords}
 use Rattle.tables.specs.Calls.{answerWords}
@@ -80,29 +80,39 @@ SizesFit (Calling c ∷ qs) = SizesFit qs
 SizesFit (Auditing n ∷ qs) = SizesFit qs
 SizesFit (SettingUp size count ∷ qs) = (size < 2 ^ 32) × SizesFit qs
 
--- a run that leaves out nothing: from w, everything in qs is asked and answered
-pub record Asking (E : Edition) (w : Words) (qs : List Asked) : Type 0 where
-  pub answered : List Done
-  pub left : Words
-  pub run : Run E w answered left
-  pub all-asked : askedOf answered ≡ qs
-
 pub record RunMeans (E : Edition) : Type 0 where
-  pub every-run : (w : Words) → OfHead w → (qs : List Asked) → SizesFit qs → Asking E w qs
+  -- nothing is left out: from any words of a head, everything in qs can be asked, and is answered
+  pub every-run : (w : Words) → OfHead w → (qs : List Asked) → SizesFit qs
+      → (ds : List Done) × (u : Words) × Run E w ds u × (askedOf ds ≡ qs)
+  -- nor is any step: an audit with whatever its scratch held, a setup with whatever arrays it is lent beside the tables of w
+  pub call-step : (c : Call) (w : Words) → Step E w (Calling c) (answerWords E c w .0) (answerWords E c w .1)
+  pub audit-step : (w : Words) (scratch : List ℕ) → OfHead w → Step E w (Auditing (length scratch)) (auditWords E w scratch .0) w
+  pub setup-step : (size count : ℕ) (w : Words) (lent : Lent) → size < 2 ^ 32 → lent .nodes ≡ w .nodes → lent .pile ≡ w .pile
+      → Step E w (SettingUp size count) (setupWords E size count lent .0) (setupWords E size count lent .1)
+  -- and no step is more than that: each answer is the model's, and so is what the next step finds
   pub call-answered : {w u : Words} {c : Call} {a : Answer} {ds : List Done} → Run E w (did (Calling c) a ∷ ds) u
       → (a ≡ answerWords E c w .0) × Run E (answerWords E c w .1) ds u
   pub audit-answered : {w u : Words} {n : ℕ} {a : Answer} {ds : List Done} → Run E w (did (Auditing n) a ∷ ds) u
       → (scratch : List ℕ) × (length scratch ≡ n) × (a ≡ auditWords E w scratch .0) × Run E w ds u
   pub setup-answered : {w u : Words} {size count : ℕ} {a : Answer} {ds : List Done} → Run E w (did (SettingUp size count) a ∷ ds) u
       → (lent : Lent) × LentFrom w lent × (a ≡ setupWords E size count lent .0) × Run E (setupWords E size count lent .1) ds u
+  pub whole-tables : {w : Words} {lent : Lent} → LentFrom w lent → (lent .nodes ≡ w .nodes) × (lent .pile ≡ w .pile)
+  pub sizes-fit : {w u : Words} {ds : List Done} → Run E w ds u → SizesFit (askedOf ds)
+  pub ends-there : {w u : Words} → Run E w [] u → u ≡ w
   -- NoSetup shuts out setups, and nothing else
   pub no-setup : (before after : List Done) (size count : ℕ) (a : Answer) → NoSetup (before ++ (did (SettingUp size count) a ∷ after)) → ⊥
   pub only-setup : (ds : List Done)
       → ((before after : List Done) (size count : ℕ) (a : Answer) → ds ≡ before ++ (did (SettingUp size count) a ∷ after) → ⊥) → NoSetup ds
-  -- every answer is told, and every call with its event, each in its place: so none can be left out of what the demands compare
+  -- every question and every answer is told, and every call with its event, each in its place, and no event beside them: so none can be left out of
+  -- what the demands compare
+  pub every-question : (before after : List Done) (q : Asked) (a : Answer)
+      → askedOf (before ++ (did q a ∷ after)) ≡ askedOf before ++ (q ∷ askedOf after)
   pub every-answer : (before after : List Done) (q : Asked) (a : Answer)
       → answersOf (before ++ (did q a ∷ after)) ≡ answersOf before ++ (a ∷ answersOf after)
   pub every-call : (before after : List Done) (c : Call) (a : Answer)
       → callsOf (before ++ (did (Calling c) a ∷ after)) ≡ callsOf before ++ (c ∷ callsOf after)
   pub every-event : (before after : List Done) (c : Call) (a : Answer)
       → logOf (before ++ (did (Calling c) a ∷ after)) ≡ logOf before ++ (event c a ∷ logOf after)
+  pub no-other-call : (ds : List Done) → map callOf (logOf ds) ≡ callsOf ds
+  pub calls-alone : (ds : List Done)
+      → ((before after : List Done) (c : Call) (a : Answer) → ds ≡ before ++ (did (Calling c) a ∷ after) → ⊥) → callsOf ds ≡ []

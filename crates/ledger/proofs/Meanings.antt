@@ -14,7 +14,7 @@ use Rattle.basics.proofs.Decided.{Same, same, differ, same?, Below, below, beyo
 use Rattle.ledger.specs.Ledger.{Region, live, free, len, Stacks, onTop, numbersFrom, Answer, granted, done, refused}
 use Rattle.ledger.specs.Calls.{Call, Take, HandBack, SizeOf, Report, FullReport, Reset, Event, event}
 use Rattle.ledger.specs.Spans.{At, first, later, FreeIn, Among, Disjoint, Leaves, AllLeave}
-use Rattle.ledger.specs.History.{Span, note, liveOne}
+use Rattle.ledger.specs.History.{Span, strike, note, liveOne}
 use Rattle.ledger.specs.Stretch.{Question, size-query, short-report, full-report, Stretch, ended, grants, returns, refuses, asks}
 use Rattle.ledger.specs.Claims.{CanRefuse, too-few-spares, none-reaches, not-live, unknown}
 use Rattle.ledger.specs.Claims.{NoneOrFree, none-there, one-there, Remainder, nothing-left, next-record, OnTop}
@@ -181,6 +181,56 @@ question-notes-nothing (SizeOf r) a out size-query = refl
 question-notes-nothing Report a out short-report = refl
 question-notes-nothing FullReport a out full-report = refl
 
+-- no span of the list has this record; then none of those behind the first has
+abbrev NoneHas : ℕ → List Span → Type 0
+NoneHas r out = (xs ys : List Span) (x : Span) → out ≡ xs ++ (x ∷ ys) → x .number ≢ r
+
+not-behind : {r : ℕ} (x : Span) (out : List Span) → NoneHas r (x ∷ out) → NoneHas r out
+not-behind x out h xs ys y e = h (x ∷ xs) ys y (ap {B = List Span} (λ zs. x ∷ zs) e)
+
+strikes-one : (n r : ℕ) (front back : List Span) → NoneHas r front
+    → strike r (front ++ (record { size = n; number = r } ∷ back)) ≡ front ++ back
+unfolding strike
+strikes-one n r [] back h = go (same? r r)
+  where
+    go : Same r r → cond (eqb r r) back (record { size = n; number = r } ∷ strike r back) ≡ back
+    go (same p e) = rw e
+    go (differ p e) = absurd (p refl)
+strikes-one n r (x ∷ front) back h = go (same? (x .number) r) (strikes-one n r front back (not-behind x front h))
+  where
+    rest : List Span
+    rest = front ++ (record { size = n; number = r } ∷ back)
+
+    go : Same (x .number) r → strike r rest ≡ front ++ back → cond (eqb (x .number) r) rest (x ∷ strike r rest) ≡ x ∷ (front ++ back)
+    go (same p e) behind = absurd (h [] front x refl p)
+    go (differ p e) behind = rw (e, behind)
+
+strikes-no-other : (r : ℕ) (out : List Span) → NoneHas r out → strike r out ≡ out
+unfolding strike
+strikes-no-other r [] h = refl
+strikes-no-other r (x ∷ out) h = go (same? (x .number) r) (strikes-no-other r out (not-behind x out h))
+  where
+    go : Same (x .number) r → strike r out ≡ out → cond (eqb (x .number) r) out (x ∷ strike r out) ≡ x ∷ out
+    go (same p e) behind = absurd (h [] out x refl p)
+    go (differ p e) behind = rw (e, behind)
+
+grant-notes-one : (s o r : ℕ) (out : List Span) → note (event (Take s) (granted o r)) out ≡ record { size = s; number = r } ∷ out
+unfolding note
+grant-notes-one s o r out = refl
+
+return-strikes-one : (n r : ℕ) (front back : List Span) → NoneHas r front
+    → note (event (HandBack r) done) (front ++ (record { size = n; number = r } ∷ back)) ≡ front ++ back
+unfolding note
+return-strikes-one n r front back h = strikes-one n r front back h
+
+return-strikes-no-other : (r : ℕ) (out : List Span) → NoneHas r out → note (event (HandBack r) done) out ≡ out
+unfolding note
+return-strikes-no-other r out h = strikes-no-other r out h
+
+reset-strikes-all : (out : List Span) → note (event Reset done) out ≡ []
+unfolding note
+reset-strikes-all out = refl
+
 pub meanings : Meanings
 meanings = record {
   at-exactly = at-exactly;
@@ -213,4 +263,8 @@ meanings = record {
   numbers-each = numbers-each;
   refusal-notes-nothing = refusal-notes-nothing;
   question-notes-nothing = question-notes-nothing;
+  grant-notes-one = grant-notes-one;
+  return-strikes-one = return-strikes-one;
+  return-strikes-no-other = return-strikes-no-other;
+  reset-strikes-all = reset-strikes-all;
 }

@@ -70,3 +70,10 @@ pub record Meanings : Type 0 where
   -- ---- the history: a refused call, a reset among them, and a question leave the spans that are out
   pub refusal-notes-nothing : (c : Call) (k : ℕ) (out : List Span) → note (event c (refused k)) out ≡ out
   pub question-notes-nothing : (c : Call) (a : Answer) (out : List Span) → Question c → note (event c a) out ≡ out
+  -- a grant adds one span; a return that is done strikes the last such, and no other; a reset that is done strikes all
+  pub grant-notes-one : (s o r : ℕ) (out : List Span) → note (event (Take s) (granted o r)) out ≡ record { size = s; number = r } ∷ out
+  pub return-strikes-one : (n r : ℕ) (front back : List Span) → ((xs ys : List Span) (x : Span) → front ≡ xs ++ (x ∷ ys) → x .number ≢ r)
+      → note (event (HandBack r) done) (front ++ (record { size = n; number = r } ∷ back)) ≡ front ++ back
+  pub return-strikes-no-other : (r : ℕ) (out : List Span) → ((xs ys : List Span) (x : Span) → out ≡ xs ++ (x ∷ ys) → x .number ≢ r)
+      → note (event (HandBack r) done) out ≡ out
+  pub reset-strikes-all : (out : List Span) → note (event Reset done) out ≡ []

@@ -21,6 +21,11 @@ follow size count (c ∷ cs) l =
 abbrev pub Answering : ℕ → ℕ → List Call → List Answer → Type 0
 Answering size count calls expected = answers by-class size count calls (setup by-class size count) ≡ expected
 
+-- a row says what is answered, each answer in its place
+pub record RowsMean : Type 0 where
+  pub answering : (size count : ℕ) (calls : List Call) (expected : List Answer) → Answering size count calls expected
+      → answers by-class size count calls (setup by-class size count) ≡ expected
+
 -- ---- "Size 100, count 6. Report 100, 96."
 abbrev pub the-calls : List Call
 the-calls =

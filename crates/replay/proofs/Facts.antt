@@ -1,18 +1,26 @@
 -- What can be said of lists holds. Assumes nothing.
-use Rattle.replay.specs.Facts.{ListFacts}
+use Rattle.replay.specs.Facts.{none, number-more, ListFacts}
 use Rattle.replay.proofs.Reading.{row-read}
-use Rattle.replay.proofs.Judging.{row-judged}
-use Rattle.replay.proofs.Agreeing.{agrees-only}
+use Rattle.replay.proofs.Judging.{row-judged, replay-reads}
+use Rattle.replay.proofs.Agreeing.{agrees-only, listed-only}
 use Rattle.replay.proofs.Adding.{adds-up}
-use Rattle.replay.proofs.Writing.{number-written, row-written, hides-none, names-none}
+use Rattle.replay.proofs.Writing.{number-written, row-written, any-digits, adds-up-exactly, hides-none, names-none}
 
 pub list-facts : ListFacts
 list-facts = record {
   row-read = row-read;
   number-written = number-written;
   row-written = row-written;
+  written-means = λ n w. w .decimal;
+  row-written-means = λ ns w. w .numbers;
+  any-digits = any-digits;
+  may-be-none = none;
+  may-be-more = λ text ns number n p q fits. number-more p q fits;
+  replay-reads = replay-reads;
   row-judged = row-judged;
   agrees-only = agrees-only;
+  listed-only = listed-only;
+  adds-up-exactly = adds-up-exactly;
   hides-none = hides-none;
   names-none = names-none;
   adds-up = adds-up;

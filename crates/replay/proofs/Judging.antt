@@ -8,7 +8,7 @@ use Rattle.replay.specs.declared.rows.State.the-variants.{Within}
 use Rattle.replay.specs.declared.rows.Reader.{Reader}
 use Rattle.replay.specs.declared.tally.Tally.{Tally}
 use Rattle.replay.specs.declared.classes.Replay.{Replay}
-use Rattle.replay.specs.Rows.{fresh, fed, isWhole, endsWell}
+use Rattle.replay.specs.Rows.{fresh, fed, fedAll, isWhole, endsWell}
 use Rattle.replay.specs.Tally.{counted}
 use Rattle.replay.specs.Verdicts.{rowVerdict}
 use Rattle.replay.specs.Replay.{afterByte, afterBytes}
@@ -49,3 +49,9 @@ pub row-judged : (p : Replay) (letter : ℕ) {text ns : List ℕ}
 row-judged p letter {text} {ns} ready low high numbers most =
     bytes-quiet (p .tally) 10 (row-quiet (p .reader) letter ready low high numbers most)
     ∙ byte-ended (p .tally) (withNumbers (fresh Within letter) ns) 10 (row-ended letter ns) refl
+
+-- the reader of a replay reads all bytes
+pub replay-reads : (p : Replay) (bytes : List ℕ) → afterBytes p bytes .reader ≡ fedAll (p .reader) bytes
+unfolding afterBytes afterByte fedAll
+replay-reads p [] = refl
+replay-reads p (byte ∷ bytes) = replay-reads (afterByte p byte) bytes

@@ -1,6 +1,7 @@
--- Every number has a text, and every row of numbers; and what a tally that adds up tells. Assumes nothing.
-use Prim.Native.Nat.{ℕ, zero, suc, _+_, _*_, _/_, _%_, _^_, _≤_, _<_}
+-- Every number has a text, every row of numbers too, and any digits are a number; and what a tally that adds up tells. Assumes nothing.
+use Prim.Native.Nat.{ℕ, zero, suc, _+_, _*_, _/_, _-_, _%_, _^_, _≤_, _<_}
 use mathlib.Core.Path.{_≡_, refl, sym, ap, subst}
+use mathlib.Core.Logic.{_↔_}
 use mathlib.Core.List.{List, [], _∷_, _++_, append-assoc, append-nil}
 use native.Mathlib.Omega.{arith}
 use lib.ListN.{length, getD}
@@ -40,3 +41,32 @@ hides-none t a e = omega (arith, a .sum, a .named .0 e)
 
 pub names-none : (t : Tally) → AddsUp t → t .agreed + t .listed ≡ t .rows → t .first ≡ 0
 names-none t a e = a .named .1 (omega (arith, a .sum))
+
+pub adds-up-exactly : (t : Tally) → AddsUp t ↔ ((t .agreed + t .listed + t .other ≡ t .rows) × ((t .first ≡ 0) ↔ (t .other ≡ 0)))
+adds-up-exactly t = (λ a. (a .sum, a .named), λ h. record { sum = h .0; named = h .1 })
+
+-- ---- any digits are a number
+abbrev AllDigits : List ℕ → Type 0
+AllDigits text = (i : ℕ) → i < length text → (48 ≤ getD text i 0) × (getD text i 0 ≤ 57)
+
+is-digit : (b : ℕ) → (48 ≤ b) × (b ≤ 57) → 48 + (b - 48) ≡ b
+is-digit b h = omega (arith, h .0)
+
+digits-after : {text : List ℕ} {n : ℕ} → Decimal text n → (more : List ℕ) → AllDigits more → (m : ℕ) × Decimal (text ++ more) m
+digits-after {text} {n} p [] h = (n, subst (λ (l : List ℕ). Decimal l n) (sym (append-nil text)) p)
+digits-after {text} {n} p (b ∷ bs) h =
+    let digit : (48 ≤ b) × (b ≤ 57) = h 0 (omega arith) in
+    let k = b - 48 in
+    let one-more = digit-more {k = k} p (omega (arith, digit .0, digit .1)) in
+    let it = subst (λ (c : ℕ). Decimal (text ++ (c ∷ [])) (10 * n + k)) (is-digit b digit) one-more in
+    let all = digits-after it bs (λ i inside. h (suc i) (omega arith)) in
+    (all .0, subst (λ (l : List ℕ). Decimal l (all .0)) (append-assoc text (b ∷ []) bs) (all .1))
+
+pub any-digits : (text : List ℕ) → 1 ≤ length text → AllDigits text → (n : ℕ) × Decimal text n
+any-digits [] h d = absurd (omega arith)
+any-digits (b ∷ bs) h d =
+    let digit : (48 ≤ b) × (b ≤ 57) = d 0 (omega arith) in
+    let k = b - 48 in
+    let first = one-digit {k = k} (omega (arith, digit .0, digit .1)) in
+    let it = subst (λ (c : ℕ). Decimal (c ∷ []) k) (is-digit b digit) first in
+    digits-after it bs (λ i inside. d (suc i) (omega arith))

@@ -3,14 +3,14 @@
 -- One record, which proofs/Facts.antt makes. Assumes nothing.
 use Prim.Native.Nat.{ℕ, _+_, _*_, _^_, _≤_, _<_}
 use mathlib.Core.Path.{_≡_}
-use mathlib.Core.Logic.{_↔_}
+use mathlib.Core.Logic.{_↔_, _⊎_}
 use mathlib.Core.Bool.{true}
 use mathlib.Core.List.{List, [], _∷_, _++_}
 use lib.ListN.{length, getD}
 use Rattle.replay.specs.declared.rows.State.the-variants.{Within}
 use Rattle.replay.specs.declared.rows.Reader.{Reader}
 use Rattle.replay.specs.declared.tally.Tally.{Tally}
-use Rattle.replay.specs.declared.tally.Verdict.the-variants.{Agrees}
+use Rattle.replay.specs.declared.tally.Verdict.the-variants.{Agrees, Listed}
 use Rattle.replay.specs.declared.calls.Said.{Said}
 use Rattle.replay.specs.declared.classes.Replay.{Replay}
 use Rattle.replay.specs.Rows.{fresh, ended, fedAll, endsWell}
@@ -75,6 +75,16 @@ pub record ListFacts : Type 0 where
   -- and these are rows enough: every number can be written so, and every row of numbers of 32 bits
   pub number-written : (n : ℕ) → Written n
   pub row-written : (ns : List ℕ) → ((i : ℕ) → i < length ns → getD ns i 0 < 2 ^ 32) → RowWritten ns
+  -- from the other side: what is written has that text, any digits are a number, and any row may be given a number more
+  pub written-means : (n : ℕ) (w : Written n) → Decimal (w .text) n
+  pub row-written-means : (ns : List ℕ) (w : RowWritten ns) → Numbers (w .text) ns
+  pub any-digits : (text : List ℕ) → 1 ≤ length text → ((i : ℕ) → i < length text → (48 ≤ getD text i 0) × (getD text i 0 ≤ 57))
+      → (n : ℕ) × Decimal text n
+  pub may-be-none : Numbers [] []
+  pub may-be-more : (text ns number : List ℕ) (n : ℕ) → Numbers text ns → Decimal number n → n < 2 ^ 32
+      → Numbers (text ++ (32 ∷ number)) (ns ++ (n ∷ []))
+  -- all bytes are read as the replay reads them
+  pub replay-reads : (p : Replay) (bytes : List ℕ) → afterBytes p bytes .reader ≡ fedAll (p .reader) bytes
   -- and the row is judged, once
   pub row-judged : (p : Replay) (letter : ℕ) {text ns : List ℕ}
       → endsWell (p .reader .state) ≡ true
@@ -86,6 +96,11 @@ pub record ListFacts : Type 0 where
       ≡ record { reader = rowRead letter ns; tally = counted (p .tally) (rowVerdict (rowRead letter ns)) }
   -- a row of the list of runs agrees with one letter and two numbers alone
   pub agrees-only : (r : Reader) (s : Said) → callVerdict r s ≡ Agrees → (r .letter ≡ s .letter) × (r .c ≡ s .c) × (r .d ≡ s .d)
+  -- and shows a listed difference with its own letter alone: u, or b with its own number
+  pub listed-only : (r : Reader) (s : Said) → callVerdict r s ≡ Listed
+      → (r .letter ≡ s .letter) × (r .c ≡ s .c) × ((r .letter ≡ 117) ⊎ ((r .letter ≡ 98) × (r .d ≡ s .d)))
+  -- what a tally that adds up says of its counters: neither less nor more
+  pub adds-up-exactly : (t : Tally) → AddsUp t ↔ ((t .agreed + t .listed + t .other ≡ t .rows) × ((t .first ≡ 0) ↔ (t .other ≡ 0)))
   -- a tally that adds up and names no row hides none: all its rows agreed or are listed; and where they all do, it names none
   pub hides-none : (t : Tally) → AddsUp t → t .first ≡ 0 → t .agreed + t .listed ≡ t .rows
   pub names-none : (t : Tally) → AddsUp t → t .agreed + t .listed ≡ t .rows → t .first ≡ 0

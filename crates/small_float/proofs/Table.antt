@@ -26,6 +26,7 @@ each-row (x ∷ rows) (y ∷ before) after row right e =
 pub row-by-row : RowByRow
 row-by-row = record {
   twelve = refl;
+  sizes = refl;
   each = λ before after size second third e.
       let own = each-row rowsMarkedP before after (size, second, third) rows-are-right e in
       (ap (λ row. row .1) (sym own), ap (λ row. row .2) (sym own));

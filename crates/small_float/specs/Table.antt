@@ -36,5 +36,8 @@ RowsAreRight = map rowOf rowsMarkedP ≡ rowsMarkedP
 -- told from the other side: the rows are twelve, and of each the second number is its size's class rounded down, the third the class rounded up
 pub record RowByRow : Type 0 where
   pub twelve : length rowsMarkedP ≡ 12
+  -- document 01's twelve sizes in its order: so no row can give way to another that is right too
+  pub sizes : map (λ (row : Row). row .0) rowsMarkedP
+      ≡ 0 ∷ 7 ∷ 8 ∷ 15 ∷ 16 ∷ 17 ∷ 19 ∷ 31 ∷ 1_000 ∷ 65_535 ∷ 4_026_531_840 ∷ 4_294_967_295 ∷ []
   pub each : (before after : List Row) (size second third : ℕ) → rowsMarkedP ≡ before ++ ((size, second, third) ∷ after)
       → (second ≡ down size) × (third ≡ up size)

@@ -40,4 +40,11 @@ two-takes = record {
 
 pub spoiled-refused : Spoiled
 unfolding answerWords spoiled up word insert insertAt insertNodes joinNodes putLink popPile trailingZeros
-spoiled-refused = record { too-short = refl; outside = refl; around = refl }
+spoiled-refused = record {
+  too-short = refl;
+  outside = refl;
+  around = refl;
+  right-size = refl;
+  right-offset = refl;
+  right-link = refl;
+}

@@ -1,9 +1,9 @@
 -- The rows of specs/Examples.antt that speak of every size, table or call: which counts are accepted, and that every number a call may give is given.
 -- Assumes nothing.
 use mathlib.Core.Path.{_≡_, refl, sym, ap, _∙_}
-use mathlib.Core.Logic.{inl, inr}
+use mathlib.Core.Logic.{_⊎_, inl, inr}
 use mathlib.Core.List.{List, []}
-use Prim.Native.Nat.{ℕ, _+_, _*_, _/_, _%_, _≤_}
+use Prim.Native.Nat.{ℕ, _+_, _*_, _/_, _%_, _≤_, _<_}
 use native.Mathlib.Omega.{arith}
 use lib.ListN.{length, getD, replicate, length-replicate, getD-replicate, List·getD-eq-default}
 use lib.Pow.{pow-pos}
@@ -12,26 +12,36 @@ use Rattle.small_float.specs.Class.{up}
 use Rattle.ledger.specs.Ledger.{Answer, done, refused, setup, by-class}
 use Rattle.ledger.specs.Calls.{Call, Take, HandBack, SizeOf, Report, FullReport, Reset, answer, end}
 use Rattle.ledger.proofs.SmallStores.{small-stores}
-use Rattle.tables.specs.Layout.{used, word}
+use Rattle.tables.specs.Layout.{used, word, nodesNeeded, pileNeeded}
 use Rattle.tables.specs.Words.{Words}
 use Rattle.tables.specs.Gate.{gateOf}
 use Rattle.tables.specs.Search.{lowFrom, lowInBin, leafOrAbove, findClass}
 use Rattle.tables.specs.Search as found
 use Rattle.tables.specs.Take.{planClass, planTake, doTake}
-use Rattle.tables.specs.Setup.{Lent, setupWords}
+use Rattle.tables.specs.Setup.{Lent, tablesAlone, setupWords}
 use Rattle.tables.specs.Calls.{edition32, answerWords, endWords}
 use Rattle.tables.specs.Reach.{Room}
 use Rattle.tables.specs.Claims.{OneOf, mayGive, NotLive}
-use Rattle.tables.specs.Examples.{LongEnough, CountRows, AllGiven}
+use Rattle.tables.specs.Examples.{LongEnough, CountRows, AllGiven, EveryEdition}
 use Rattle.tables.proofs.MaskEnds.{low-past}
 use Rattle.tables.proofs.Gate.{room-opens-gate, gated-open}
-use Rattle.tables.proofs.Refusals.{setup-1, setup-done, call-6, call-2, take-3, back-5, size-5}
+use Rattle.tables.proofs.Refusals.{setup-1, setup-2, setup-done, setup-refused, call-6, call-2, take-3, back-5, size-5}
 use Rattle.tables.proofs.Runs.{call-sound, demand-2}
 
 -- ---- counts
 accepted : (size count : ℕ) (lent : Lent) → 2 ≤ count → count ≤ 131072 → LongEnough count lent → setupWords edition32 size count lent .0 ≡ done
 accepted size count lent low high long =
     setup-done edition32 size count lent .1 record { count-low = low; count-high = high; nodes-room = long .0; pile-room = long .1 }
+
+which : (count : ℕ) (lent : Lent) → ¬ LongEnough count lent
+    → (length (lent .nodes) < nodesNeeded count) ⊎ (length (lent .pile) < pileNeeded count)
+which count lent short = elim (below? (length (lent .nodes)) (nodesNeeded count)) [
+  | below l e ↦ inl l
+  | beyond l e ↦ elim (below? (length (lent .pile)) (pileNeeded count)) [
+    | below m f ↦ inr m
+    | beyond m f ↦ absurd (short (l, m))
+  ]
+]
 
 pub count-rows : CountRows
 count-rows = record {
@@ -43,6 +53,9 @@ count-rows = record {
       ∙ unfold answer in small-stores .count-2 size s (end by-class size 2 cs (setup by-class size 2)) (cs, refl);
   count-131072 = λ size lent long. accepted size 131072 lent (omega arith) (omega arith) long;
   count-131073 = λ size lent. setup-1 edition32 size 131073 lent .1 (inr (omega arith));
+  not-long-enough = λ size count lent low high short. setup-2 edition32 size count lent .1 ((low, high), which count lent short);
+  one-of-zeros = λ size nodes pile.
+      setup-refused edition32 size 1 (tablesAlone nodes pile) 1 (setup-1 edition32 size 1 (tablesAlone nodes pile) .1 (inl (omega arith)));
 }
 
 -- ---- numbers
@@ -115,3 +128,6 @@ given Reset k (inr (inr e)) = absurd e
 
 pub all-given : AllGiven
 all-given = record { all-given = given }
+
+pub every-edition : EveryEdition
+every-edition = record { every-edition = λ none limit h. (record { none = none; limit = limit; small = h }, refl, refl) }

@@ -1,5 +1,5 @@
 -- A plan that does not stop has passed its guards. Assumes nothing.
-use mathlib.Core.Path.{_≡_, refl}
+use mathlib.Core.Path.{_≡_, refl, subst}
 use mathlib.Core.Bool.{Bool, true, false}
 use mathlib.Core.List.{List}
 use Prim.Native.Nat.{ℕ, _+_, _-_, _≤_, _<_}
@@ -13,9 +13,9 @@ use Rattle.small_float.specs.Class.{up}
 use Rattle.tables.specs.Layout.{pick, dataOffset, dataSize, neighborPrev, neighborNext, used, word}
 use Rattle.tables.specs.Words.{Words}
 use Rattle.tables.specs.Search.{Found, class-is, no-class, bad-bits, findClass}
-use Rattle.tables.specs.Take.{planSpare, planRegion, planRecord, planClass, planTake}
+use Rattle.tables.specs.Take.{TakePlan, planSpare, planRegion, planRecord, planClass, planTake}
 use Rattle.tables.specs.HandBack.{BackPlan, Merged, isLive, isFree, mergedOf, planMerged, planSides, planNeighbours, planBack}
-use Rattle.tables.specs.Guards.{TakeGuards, BackGuards}
+use Rattle.tables.specs.Guards.{GrantGuards, SplitGuards, TakeGuards, MergeGuards, BackGuards, GuardsMean}
 
 -- ---- take
 module _ (w : Words) (s : ℕ) (spare : 1 ≤ w .off) where
@@ -128,3 +128,16 @@ back-guards w r = go (isLive (w .nodes) (w .count) r) refl
         (free-low (w .nodes) (w .count) p)
         (free-low (w .nodes) (w .count) x)
     go false e = tt
+
+pub guards-mean : GuardsMean
+guards-mean = record {
+  whole-sure = λ w s c r o e.
+      let g : GrantGuards w s c r o = subst (λ (plan : TakePlan). TakeGuards w s plan) e (take-guards w s) in
+      (g .class-low, g .record-low, g .inside, g .enough, g .spare);
+  split-sure = λ w s c r o rest m e.
+      let g : GrantGuards w s c r o × SplitGuards w m = subst (λ (plan : TakePlan). TakeGuards w s plan) e (take-guards w s) in
+      (g .0 .class-low, g .0 .record-low, g .0 .inside, g .0 .enough, g .0 .spare, g .1 .top-low, g .1 .spare-low);
+  merge-sure = λ w r p x p-free x-free m e.
+      let g : MergeGuards w r p x p-free x-free m = subst (λ (plan : BackPlan). BackGuards w r plan) e (back-guards w r) in
+      (g .record-low, g .before-low, g .after-low, g .length-fits, g .total-fits, g .pile-room);
+}

@@ -1,5 +1,5 @@
 -- A call whose answer and words are the model's keeps all that it promises, and its promise allows one outcome. Assumes nothing.
-use mathlib.Core.Path.{_≡_, sym, ap, subst, _∙_}
+use mathlib.Core.Path.{_≡_, refl, sym, ap, subst, _∙_}
 use Prim.Native.Nat.{ℕ, _^_, _<_}
 use Rattle.ledger.specs.Ledger.{Answer, setup, by-class}
 use Rattle.ledger.specs.Calls.{Call, answer}
@@ -7,7 +7,7 @@ use Rattle.tables.specs.Words.{Words, Edition}
 use Rattle.tables.specs.Setup.{Lent, setupWords}
 use Rattle.tables.specs.Calls.{answerWords}
 use Rattle.tables.specs.Sound.{Sound}
-use Rattle.tables.specs.Promise.{Promise, SetupPromise}
+use Rattle.tables.specs.Promise.{Promise, SetupPromise, PromiseMeans}
 use Rattle.tables.proofs.Kept.{refused-kept, grant-inside}
 use Rattle.tables.proofs.Refusals.{setup-refused}
 use Rattle.tables.proofs.SetupSound.{setup-sound}
@@ -57,3 +57,12 @@ setup-promise E size count lent {v} {a} small e = record {
 pub one-setup : (E : Edition) (size count : ℕ) (lent : Lent) {u v : Words} {a b : Answer}
     → SetupPromise E size count lent u a → SetupPromise E size count lent v b → _≡_ {A = Answer × Words} (a, u) (b, v)
 one-setup E size count lent p q = p .exact ∙ sym (q .exact)
+
+-- ---- from both sides
+pub promise-means : (E : Edition) → PromiseMeans E
+promise-means E = record {
+  outcome = λ p. (ap (λ (x : Answer × Words). x .0) (p .exact), ap (λ (x : Answer × Words). x .1) (p .exact));
+  every-call = λ c w. promise E c w refl;
+  setup-outcome = λ p. (ap (λ (x : Answer × Words). x .0) (p .exact), ap (λ (x : Answer × Words). x .1) (p .exact), p .size-fits);
+  every-setup = λ size count lent small. setup-promise E size count lent small refl;
+}

@@ -1,5 +1,5 @@
 -- Which words KeptBeyond, Agree and LeftAlone cover, up to the last. Assumes nothing.
-use mathlib.Core.Path.{_≡_}
+use mathlib.Core.Path.{_≡_, refl}
 use mathlib.Core.Logic.{_⊎_, inl, inr}
 use Prim.Native.Nat.{ℕ, _%_, _≤_, _<_}
 use native.Mathlib.Omega.{arith}
@@ -7,8 +7,9 @@ use lib.ListN.{length}
 use Rattle.basics.proofs.Decided.{Same, same, differ, same?, Below, below, beyond, below?}
 use Rattle.basics.proofs.Lists.{same-beyond, read-alike}
 use Rattle.tables.specs.Layout.{used, nodesNeeded, pileNeeded}
+use Rattle.tables.specs.Words.{Words, withTables}
 use Rattle.tables.specs.Reach.{LeftAlone, Written, ReachMeans}
-use Rattle.tables.proofs.Agreeing.{tables-agree}
+use Rattle.tables.proofs.Agreeing.{tables-agree, by-tables}
 
 left-or-written : (n i : ℕ) → 1 ≤ n → LeftAlone n i ⊎ Written n i
 left-or-written n i one = go (below? i (nodesNeeded n)) (below? i 7) (same? i 7) (same? (i % 8) used)
@@ -34,6 +35,7 @@ reach-means = record {
   kept-pile = λ {n} {w} {v} k. same-beyond (pileNeeded n) (v .pile) (w .pile) (k .pile-length) (k .pile-beyond);
   agree-on = λ k a b l m e. record { long = l; long-too = m; same = read-alike k a b e };
   agree = λ n w nodes pile N P. tables-agree n w N P;
+  agree-head = λ {n} {w} {v} A. by-tables n A (λ (u : Words). withTables w (v .nodes) (v .pile) ≡ u) refl;
   one-or-other = left-or-written;
   never-both = not-both;
 }

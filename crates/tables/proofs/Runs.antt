@@ -1,10 +1,10 @@
 -- Every call on sound words answers as the ledger, and so do runs of calls: demands 2 and 3. Assumes nothing.
 use mathlib.Core.Path.{_≡_, refl, ap, ap₂, sym, _∙_, subst}
-use mathlib.Core.List.{List, [], _∷_}
+use mathlib.Core.List.{List, [], _∷_, map}
 use Prim.Native.Nat.{ℕ, _^_, _≤_, _<_}
 use native.Mathlib.Omega.{arith}
 use Rattle.ledger.specs.Ledger.{Ledger, Answer, done, refused, setup, by-class, Stacks}
-use Rattle.ledger.specs.Calls.{Call, Take, HandBack, SizeOf, Report, FullReport, Reset, Event, event, answer, end, answers, log}
+use Rattle.ledger.specs.Calls.{Call, Take, HandBack, SizeOf, Report, FullReport, Reset, Event, event, callOf, answerOf, answer, end, answers, log}
 use Rattle.ledger.specs.WellFormed.{WellFormed}
 use Rattle.ledger.specs.Stretch.{Stretch}
 use Rattle.ledger.specs.Claims.{CanRefuse, too-few-spares, none-reaches, not-live, unknown}
@@ -69,6 +69,17 @@ module _ (E : Edition) where
       let rest = run-sound size count two cs (answerWords E c w .1) (answer by-class size count c l .1)
       (call-well by-class class-laws size count two c l f) (this .1) in
       (ap₂ {C = List Answer} _∷_ (this .0) (rest .0), ap₂ {C = List Event} _∷_ (ap (event c) (this .0)) (rest .1), rest .2)
+
+  -- on any words the log has the calls and the answers
+  pub log-calls : (cs : List Call) (w : Words) → map callOf (logWords E cs w) ≡ cs
+  unfolding logWords
+  log-calls [] w = refl
+  log-calls (c ∷ cs) w = ap (λ (xs : List Call). c ∷ xs) (log-calls cs (answerWords E c w .1))
+
+  pub log-answers : (cs : List Call) (w : Words) → map answerOf (logWords E cs w) ≡ answersWords E cs w
+  unfolding logWords answersWords
+  log-answers [] w = refl
+  log-answers (c ∷ cs) w = ap (λ (xs : List Answer). answerWords E c w .0 ∷ xs) (log-answers cs (answerWords E c w .1))
 
   -- words that stand for one ledger answer alike for ever, whatever their spare records hold
   pub alike : (w v : Words) (l : Ledger Stacks) → Sound E w l → Sound E v l → (cs : List Call) → answersWords E cs w ≡ answersWords E cs v

@@ -2,12 +2,12 @@
 -- edition. Assumes nothing.
 use mathlib.Core.Path.{_≡_}
 use mathlib.Core.Logic.{_↔_, _⊎_}
-use mathlib.Core.List.{List, [], _∷_}
+use mathlib.Core.List.{List, [], _∷_, map}
 use Prim.Native.Nat.{ℕ, zero, suc, _+_, _*_, _-_, _^_, _≤_, _<_}
 use lib.ListN.{length, getD}
 use Rattle.basics.specs.Extreme.{Greatest, Least}
 use Rattle.ledger.specs.Ledger.{Ledger, granted, done, refused, setup, by-class, Stacks}
-use Rattle.ledger.specs.Calls.{Call, Take, HandBack, SizeOf, Report, FullReport, Reset, answer, end, answers}
+use Rattle.ledger.specs.Calls.{Call, Take, HandBack, SizeOf, Report, FullReport, Reset, callOf, answerOf, answer, end, answers}
 use Rattle.ledger.specs.Stretch.{Stretch}
 use Rattle.tables.specs.Layout.{binNext, used, word, nodesNeeded, pileNeeded}
 use Rattle.tables.specs.Words.{Words, Edition}
@@ -136,6 +136,9 @@ pub record Claims (E : Edition) : Type 0 where
   pub demand-2 : (size count : ℕ) (lent : Lent) → size < 2 ^ 32 → setupWords E size count lent .0 ≡ done → (cs : List Call)
       → (answersWords E cs (setupWords E size count lent .1) ≡ answers by-class size count cs (setup by-class size count))
       × Sound E (endWords E cs (setupWords E size count lent .1)) (end by-class size count cs (setup by-class size count))
+  -- the log, of which demand 3 speaks, has every call in its order and every answer, on any words
+  pub log-calls : (cs : List Call) (w : Words) → map callOf (logWords E cs w) ≡ cs
+  pub log-answers : (cs : List Call) (w : Words) → map answerOf (logWords E cs w) ≡ answersWords E cs w
   -- Demand 3: after the stretch "every later call, handle numbers and reports included, answers as though the stretch had never been"
   pub demand-3 : (size count : ℕ) (lent : Lent) → size < 2 ^ 32 → setupWords E size count lent .0 ≡ done → (before : List Call)
       → (cs : List Call) → Stretch [] (logWords E cs (endWords E before (setupWords E size count lent .1)))

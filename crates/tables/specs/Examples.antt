@@ -8,7 +8,7 @@ use Rattle.ledger.specs.Ledger.{Answer, granted, done, length-is, reported, ref
 use Rattle.ledger.specs.Calls.{Call, Take, HandBack, SizeOf, Report, FullReport, Reset}
 use Rattle.ledger.specs.Runs.{the-calls, the-answers}
 use Rattle.tables.specs.Layout.{dataOffset, dataSize, binNext, put, nodesNeeded, pileNeeded}
-use Rattle.tables.specs.Words.{Words, withNodes}
+use Rattle.tables.specs.Words.{Words, Edition, withNodes}
 use Rattle.tables.specs.Setup.{Lent, tablesAlone, setupWords}
 use Rattle.tables.specs.Calls.{edition32, answerWords, endWords, answersWords}
 use Rattle.tables.specs.Claims.{OneOf, mayGive}
@@ -16,9 +16,6 @@ use Rattle.tables.specs.Claims.{OneOf, mayGive}
 unfoldable pub desk : (size count : ℕ) → Words
 unfolding setupWords
 desk size count = setupWords edition32 size count (tablesAlone (replicate (nodesNeeded count) 7) (replicate (pileNeeded count) 7)) .1
-
-abbrev pub Answering : (size count : ℕ) → List Call → List Answer → Type 0
-Answering size count calls expected = answersWords edition32 calls (desk size count) ≡ expected
 
 -- ---- "Size 100, count 6. Report 100, 96." The ledger's rows, each call followed by a report
 unfoldable pub reporting : List Call → List Call
@@ -30,7 +27,7 @@ withReports [] = []
 withReports (row ∷ rows) = row .0 ∷ reported (row .1 .0) (row .1 .1) ∷ withReports rows
 
 pub record RunOnWords : Type 0 where
-  pub the-run : Answering 100 6 (Report ∷ reporting the-calls) (reported 100 96 ∷ withReports the-answers)
+  pub the-run : answersWords edition32 (Report ∷ reporting the-calls) (desk 100 6) ≡ reported 100 96 ∷ withReports the-answers
   -- "The one region now belongs to record 2"; after a reset it is record 0's again
   pub then-reset : answersWords edition32 (Take 5 ∷ SizeOf 2 ∷ Reset ∷ SizeOf 2 ∷ Take 5 ∷ Report ∷ []) (endWords edition32 the-calls (desk 100 6))
       ≡ granted 0 2 ∷ length-is 5 ∷ done ∷ refused 5 ∷ granted 0 0 ∷ reported 95 88 ∷ []
@@ -66,37 +63,38 @@ pub record TwoTakes : Type 0 where
 -- ---- "Ways to get it nearly right", and others: each row is the first to differ under one of the edits in must-fail/
 pub record NearlyRight : Type 0 where
   -- only the first top bin searched: a request of class 1, in top bin 0, is served by a region of class 36, in top bin 4
-  pub next-top-bin : Answering 100 6 (Take 1 ∷ []) (granted 0 0 ∷ [])
+  pub next-top-bin : answersWords edition32 (Take 1 ∷ []) (desk 100 6) ≡ granted 0 0 ∷ []
   -- the leaf floor kept after moving up: a request of class 7, leaf 7, is served by a region of class 32, leaf 0
-  pub floor-dropped : Answering 64 4 (Take 7 ∷ []) (granted 0 0 ∷ [])
+  pub floor-dropped : answersWords edition32 (Take 7 ∷ []) (desk 64 4) ≡ granted 0 0 ∷ []
   -- the top bit not cleared when its leaf byte falls to 0: the only region is granted whole
-  pub top-bit-cleared : Answering 64 4 (Take 64 ∷ Report ∷ Take 1 ∷ []) (granted 0 0 ∷ reported 0 0 ∷ refused 4 ∷ [])
+  pub top-bit-cleared : answersWords edition32 (Take 64 ∷ Report ∷ Take 1 ∷ []) (desk 64 4) ≡ granted 0 0 ∷ reported 0 0 ∷ refused 4 ∷ []
   -- the pile index off by one: a remainder takes the record on top
-  pub pile-top : Answering 100 6 (Take 10 ∷ Take 10 ∷ []) (granted 0 0 ∷ granted 10 1 ∷ [])
+  pub pile-top : answersWords edition32 (Take 10 ∷ Take 10 ∷ []) (desk 100 6) ≡ granted 0 0 ∷ granted 10 1 ∷ []
   -- the old top's back link not written: of two regions of class 10 the lower is merged away first, and the class is then empty
-  pub linked-back :
-      Answering 100 8
+  pub linked-back : answersWords edition32
       (Take 10 ∷ Take 10 ∷ Take 10 ∷ Take 10 ∷ Take 10 ∷ Take 10 ∷ HandBack 0 ∷ HandBack 2 ∷ HandBack 1 ∷ HandBack 4 ∷ Take 10 ∷ [])
-      (granted 0 0 ∷ granted 10 1 ∷ granted 20 2 ∷ granted 30 3 ∷ granted 40 4 ∷ granted 50 5
-      ∷ done ∷ done ∷ done ∷ done ∷ granted 40 4 ∷ [])
+      (desk 100 8)
+      ≡ granted 0 0 ∷ granted 10 1 ∷ granted 20 2 ∷ granted 30 3 ∷ granted 40 4 ∷ granted 50 5
+      ∷ done ∷ done ∷ done ∷ done ∷ granted 40 4 ∷ []
   -- the remainder linked before the grant: both are of class 36, and the class must keep the remainder
-  pub grant-first : Answering 100 4 (Take 1 ∷ Report ∷ []) (granted 0 0 ∷ reported 99 96 ∷ [])
+  pub grant-first : answersWords edition32 (Take 1 ∷ Report ∷ []) (desk 100 4) ≡ granted 0 0 ∷ reported 99 96 ∷ []
 
 -- ---- a word of record 0 spoiled in a fresh store: 6, and the words as they came
 unfoldable pub spoiled : (field v : ℕ) → Words
 unfolding desk put
 spoiled field v = withNodes (desk 100 6) (put 0 field v (desk 100 6 .nodes))
 
-abbrev pub RefusedKept : Call → Words → Type 0
-RefusedKept c w = answerWords edition32 c w ≡ (refused 6, w)
-
 pub record Spoiled : Type 0 where
   -- a length below the request, though its class is not
-  pub too-short : RefusedKept (Take 20) (spoiled dataSize 5)
+  pub too-short : answerWords edition32 (Take 20) (spoiled dataSize 5) ≡ (refused 6, spoiled dataSize 5)
   -- an offset from which the length passes the size
-  pub outside : RefusedKept (Take 20) (spoiled dataOffset 1)
+  pub outside : answerWords edition32 (Take 20) (spoiled dataOffset 1) ≡ (refused 6, spoiled dataOffset 1)
   -- a list that comes back to its own record
-  pub around : RefusedKept FullReport (spoiled binNext 0)
+  pub around : answerWords edition32 FullReport (spoiled binNext 0) ≡ (refused 6, spoiled binNext 0)
+  -- nothing else is spoiled: with the word that belongs there, it is the fresh store, where neither call is refused
+  pub right-size : spoiled dataSize 100 ≡ desk 100 6
+  pub right-offset : spoiled dataOffset 0 ≡ desk 100 6
+  pub right-link : spoiled binNext none ≡ desk 100 6
 
 -- ---- "Count 1 is refused, 2 accepted though every take gives 3; 131,072 is accepted, 131,073 refused."
 -- tables that are long enough for a count
@@ -110,7 +108,27 @@ pub record CountRows : Type 0 where
       → answerWords edition32 (Take s) (endWords edition32 cs (setupWords edition32 size 2 lent .1)) .0 ≡ refused 3
   pub count-131072 : (size : ℕ) (lent : Lent) → LongEnough 131072 lent → setupWords edition32 size 131072 lent .0 ≡ done
   pub count-131073 : (size : ℕ) (lent : Lent) → setupWords edition32 size 131073 lent .0 ≡ refused 1
+  -- LongEnough asks no more than it must: without it, a count that would do is refused as 2
+  pub not-long-enough : (size count : ℕ) (lent : Lent) → 2 ≤ count → count ≤ 131072 → ¬ LongEnough count lent
+      → setupWords edition32 size count lent .0 ≡ refused 2
+  -- "refused, it returns one of zeros": by value, the arrays too
+  pub one-of-zeros : (size : ℕ) (nodes pile : List ℕ) → setupWords edition32 size 1 (tablesAlone nodes pile) .1
+      ≡ record {
+        size = 0;
+        count = 0;
+        total = 0;
+        off = 0;
+        top = 0;
+        leaves = replicate 32 0;
+        heads = replicate 256 0;
+        nodes = nodes;
+        pile = pile;
+      }
 
 -- ---- every number that `mayGive` names is given, on some words
 pub record AllGiven : Type 0 where
   pub all-given : (c : Call) (k : ℕ) → OneOf (mayGive c) k → (w : Words) × (answerWords edition32 c w .0 ≡ refused k)
+
+-- ---- any marker that no record below the limit can have makes an edition, so the claims are of all of these
+pub record EveryEdition : Type 0 where
+  pub every-edition : (none limit : ℕ) → limit ≤ none → (E : Edition) × (E .none ≡ none) × (E .limit ≡ limit)

@@ -1,10 +1,11 @@
 -- What a plan has made sure of when it does not stop: all that its commit relies on. Assumes nothing.
+use mathlib.Core.Path.{_≡_}
 use mathlib.Core.Bool.{Bool}
 use Prim.Native.Nat.{ℕ, _+_, _≤_, _<_}
 use Rattle.basics.specs.Sum.{one}
 use Rattle.tables.specs.Words.{Words}
-use Rattle.tables.specs.Take.{TakePlan, stop, whole, split}
-use Rattle.tables.specs.HandBack.{BackPlan, merge, Merged}
+use Rattle.tables.specs.Take.{TakePlan, stop, whole, split, planTake}
+use Rattle.tables.specs.HandBack.{BackPlan, merge, Merged, planBack}
 
 -- a region of class c and record r, at offset o, is to be granted for s units
 pub record GrantGuards (w : Words) (s c r o : ℕ) : Type 0 where
@@ -36,3 +37,13 @@ pub record MergeGuards (w : Words) (r p x : ℕ) (p-free x-free : Bool) (m : Mer
 abbrev pub BackGuards : Words → ℕ → BackPlan → Type 0
 BackGuards w r (BackPlan.stop k) = Unit {0}
 BackGuards w r (merge p x p-free x-free m) = MergeGuards w r p x p-free x-free m
+
+-- ---- the same, from the other side: what holds of every plan that goes on, one by one
+pub record GuardsMean : Type 0 where
+  pub whole-sure : (w : Words) (s c r o : ℕ) → planTake w s ≡ whole c r o
+      → (c < 256) × (r < w .count) × (o + s ≤ w .size) × (s ≤ w .total) × (1 ≤ w .off)
+  pub split-sure : (w : Words) (s c r o rest m : ℕ) → planTake w s ≡ split c r o rest m
+      → (c < 256) × (r < w .count) × (o + s ≤ w .size) × (s ≤ w .total) × (1 ≤ w .off) × (w .off < w .count) × (m < w .count)
+  pub merge-sure : (w : Words) (r p x : ℕ) (p-free x-free : Bool) (m : Merged) → planBack w r ≡ merge p x p-free x-free m
+      → (r < w .count) × (1 ≤ one p-free → p < w .count) × (1 ≤ one x-free → x < w .count)
+      × (m .length ≤ w .size) × (m .total ≤ w .size) × (w .off + one p-free + one x-free < w .count)

@@ -30,3 +30,12 @@ pub record SetupPromise (E : Edition) (size count : ℕ) (lent : Lent) (v : Word
   pub ledger : a ≡ done → Sound E v (setup by-class size count)
   -- refused, all four lent tables are as they came, and the scalars are zeros
   pub kept : (k : ℕ) → a ≡ refused k → v ≡ zeros lent
+
+-- ---- the same, from the other side: what is promised is one outcome, the model's, and it can always be promised
+pub record PromiseMeans (E : Edition) : Type 0 where
+  pub outcome : {c : Call} {w v : Words} {a : Answer} → Promise E c w v a → (a ≡ answerWords E c w .0) × (v ≡ answerWords E c w .1)
+  pub every-call : (c : Call) (w : Words) → Promise E c w (answerWords E c w .1) (answerWords E c w .0)
+  pub setup-outcome : {size count : ℕ} {lent : Lent} {v : Words} {a : Answer} → SetupPromise E size count lent v a
+      → (a ≡ setupWords E size count lent .0) × (v ≡ setupWords E size count lent .1) × (size < 2 ^ 32)
+  pub every-setup : (size count : ℕ) (lent : Lent) → size < 2 ^ 32
+      → SetupPromise E size count lent (setupWords E size count lent .1) (setupWords E size count lent .0)

@@ -61,6 +61,8 @@ pub record ReachMeans : Type 0 where
   pub agree-on : (k : ℕ) (a b : List ℕ) → k ≤ length a → k ≤ length b → take k a ≡ take k b → AgreeOn k a b
   pub agree : (n : ℕ) (w : Words) (nodes pile : List ℕ) → AgreeOn (nodesNeeded n) (w .nodes) nodes → AgreeOn (pileNeeded n) (w .pile) pile
       → Agree n w (withTables w nodes pile)
+  -- and no less than that the heads are the same
+  pub agree-head : {n : ℕ} {w v : Words} → Agree n w v → withTables w (v .nodes) (v .pile) ≡ v
   -- LeftAlone: each word is left alone or written, and none is both
   pub one-or-other : (n i : ℕ) → 1 ≤ n → LeftAlone n i ⊎ Written n i
   pub never-both : (n i : ℕ) → 1 ≤ n → LeftAlone n i → Written n i → ⊥

@@ -6,7 +6,7 @@ use native.Mathlib.Omega.{arith}
 use Rattle.basics.proofs.Decided.{same?, same, differ}
 use Rattle.replay.specs.declared.rows.Reader.{Reader}
 use Rattle.replay.specs.declared.calls.Said.{Said}
-use Rattle.replay.specs.declared.tally.Verdict.the-variants.{Agrees}
+use Rattle.replay.specs.declared.tally.Verdict.the-variants.{Agrees, Listed}
 use Rattle.replay.specs.Calls.{callVerdict}
 use Rattle.replay.proofs.Facts.{list-facts}
 use Rattle.judging.specs.declared.answer.Answer.{Answer}
@@ -131,3 +131,31 @@ pub x-agrees-with : (r : Reader) (c : Call) (a : Answer)
     → r .letter ≡ 120
     → (a ≡ answer.Refused 3) ⊎ (a ≡ answer.Refused 4)
 x-agrees-with r c a e is = x-back c a (sym (list-facts .agrees-only r (saidOf c a) e .0) ∙ is)
+
+-- ---- a listed difference
+as-u : (l m c d c′ d′ : ℕ) → l ≡ 117 → m ≡ 117 → answerIn l c d ≡ answerIn m c′ d′
+as-u l m c d c′ d′ e f = rw (e, f)
+
+as-b : (l m c d c′ d′ : ℕ) → l ≡ 98 → m ≡ 98 → answerIn l c d ≡ answerIn m c′ d′
+as-b l m c d c′ d′ e f = rw (e, f)
+
+pub listed-with : (r : Reader) (c : Call) (a : Answer) → callVerdict r (saidOf c a) ≡ Listed → a ≡ answerIn (r .letter) (r .c) (r .d)
+listed-with r c a e = go (list-facts .listed-only r s e .0) (list-facts .listed-only r s e .2)
+  where
+    s : Said
+    s = saidOf c a
+
+    go : r .letter ≡ s .letter → (r .letter ≡ 117) ⊎ ((r .letter ≡ 98) × (r .d ≡ s .d)) → a ≡ answerIn (r .letter) (r .c) (r .d)
+    go its (inl u) =
+        let is : s .letter ≡ 117 = sym its ∙ u in
+        told-back c a (omega (arith, is)) (λ f. omega (arith, is, f)) ∙ as-u (s .letter) (r .letter) (s .c) (s .d) (r .c) (r .d) is u
+    go its (inr b) =
+        let is : s .letter ≡ 98 = sym its ∙ b .0 in
+        told-back c a (omega (arith, is)) (λ f. omega (arith, is, f)) ∙ as-b (s .letter) (r .letter) (s .c) (s .d) (r .c) (r .d) is (b .0)
+
+pub listed-is-5 : (r : Reader) (c : Call) (a : Answer) → callVerdict r (saidOf c a) ≡ Listed → a ≡ answer.Refused 5
+listed-is-5 r c a e = listed-with r c a e ∙ go (list-facts .listed-only r (saidOf c a) e .2)
+  where
+    go : (r .letter ≡ 117) ⊎ ((r .letter ≡ 98) × (r .d ≡ saidOf c a .d)) → answerIn (r .letter) (r .c) (r .d) ≡ answer.Refused 5
+    go (inl u) = rw u
+    go (inr b) = rw (b .0)

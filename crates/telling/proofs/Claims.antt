@@ -3,7 +3,7 @@ use mathlib.Core.Path.{refl}
 use Rattle.replay.specs.Facts.{withNumbers}
 use Rattle.telling.specs.Rows.{isRow, questionOf, callOf}
 use Rattle.telling.specs.Claims.{RowClaims}
-use Rattle.telling.proofs.Agreeing.{agrees-with, x-agrees-with}
+use Rattle.telling.proofs.Agreeing.{agrees-with, x-agrees-with, listed-with, listed-is-5}
 
 pub row-claims : RowClaims
 unfolding callOf questionOf isRow withNumbers
@@ -19,6 +19,9 @@ row-claims = record {
   r-asks = λ total largest. refl;
   g-asks = λ class value regions. refl;
   e-asks = λ classes. refl;
+  asks-means = λ letter numbers c e. e;
   agrees-with = agrees-with;
   x-agrees-with = x-agrees-with;
+  listed-with = listed-with;
+  listed-is-5 = listed-is-5;
 }

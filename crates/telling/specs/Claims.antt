@@ -7,7 +7,7 @@ use mathlib.Core.List.{List, [], _∷_}
 use lib.Dec.{eqb}
 use Rattle.tables.specs.Layout.{pick}
 use Rattle.replay.specs.declared.rows.Reader.{Reader}
-use Rattle.replay.specs.declared.tally.Verdict.the-variants.{Agrees}
+use Rattle.replay.specs.declared.tally.Verdict.the-variants.{Agrees, Listed}
 use Rattle.replay.specs.Calls.{callVerdict}
 use Rattle.replay.specs.Facts.{rowRead}
 use Rattle.judging.specs.declared.answer.Answer.{Answer}
@@ -42,6 +42,8 @@ pub record RowClaims : Type 0 where
   pub r-asks : (total largest : ℕ) → Asks 114 (total ∷ largest ∷ []) call.Report
   pub g-asks : (class value regions : ℕ) → Asks 103 (class ∷ value ∷ regions ∷ []) (call.ClassOf class)
   pub e-asks : (classes : ℕ) → Asks 101 (classes ∷ []) call.ClassesHeld
+  -- and to ask is to be read as that call, no less
+  pub asks-means : (letter : ℕ) (numbers : List ℕ) (c : Call) → Asks letter numbers c → callOf (rowRead letter numbers) ≡ c
   -- a row of a list, whose letter is from a to z, agrees with no answer but its own
   pub agrees-with : (r : Reader) (c : Call) (a : Answer)
       → callVerdict r (saidOf c a) ≡ Agrees
@@ -53,3 +55,10 @@ pub record RowClaims : Type 0 where
       → callVerdict r (saidOf c a) ≡ Agrees
       → r .letter ≡ 120
       → (a ≡ answer.Refused 3) ⊎ (a ≡ answer.Refused 4)
+  -- a row that shows a listed difference, b or u, does so with 5 alone
+  pub listed-with : (r : Reader) (c : Call) (a : Answer)
+      → callVerdict r (saidOf c a) ≡ Listed
+      → a ≡ answerIn (r .letter) (r .c) (r .d)
+  pub listed-is-5 : (r : Reader) (c : Call) (a : Answer)
+      → callVerdict r (saidOf c a) ≡ Listed
+      → a ≡ answer.Refused 5

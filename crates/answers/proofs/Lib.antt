@@ -1,0 +1,2 @@
+-- Numbers: each refusal has a number of its own.
+pub mod Numbers

@@ -1,0 +1,2 @@
+-- Means: what a row that agrees tells.
+pub mod Means
