@@ -1,6 +1,12 @@
-// What a call answers with: a handle, a grant, or a refusal with document 01's number.
+// What the calls answer with: a handle, a grant, figures, or a refusal with document 01's number.
+//
+// Every answer is an enum that says done, granted or told, or why not; `number` gives document 01's number of it, 0 where it is no refusal.
+// answers/specs says of each what it is in the ledger's terms.
 ghost use mathlib.Core.Path.{_≡_};
+ghost use Rattle.ledger.specs.Figures.{refusalOf};
 ghost use Rattle.answers.specs.Refusals.{numberOf};
+ghost use Rattle.answers.specs.Answers.{takeSays, backSays, startSays, sizeSays, reportSays, fullSays, auditSays};
+use small_float::Size;
 
 // A record number that was given out. A handle, a class and a size are three types, so that one cannot stand for another.
 pub struct Handle(pub u32);
@@ -40,6 +46,144 @@ impl Refusal {
             Refusal::NoRegion => 4,
             Refusal::NotLive => 5,
             Refusal::Unsound => 6,
+        }
+    }
+}
+
+// Setup and reset.
+pub enum StartAnswer {
+    Done,
+    Refused(Refusal),
+}
+
+impl StartAnswer {
+    pub fn number(self) -> u32
+        ensures { λ n. ⌜ n ≡ refusalOf (startSays self) ⌝ }
+    {
+        let answer = self;
+        match answer {
+            StartAnswer::Done => 0,
+            StartAnswer::Refused(why) => why.number(),
+        }
+    }
+}
+
+// Take.
+pub enum TakeAnswer {
+    Granted(Allocation),
+    Refused(Refusal),
+}
+
+impl TakeAnswer {
+    pub fn number(self) -> u32
+        ensures { λ n. ⌜ n ≡ refusalOf (takeSays self) ⌝ }
+    {
+        let answer = self;
+        match answer {
+            TakeAnswer::Granted(_) => 0,
+            TakeAnswer::Refused(why) => why.number(),
+        }
+    }
+}
+
+// Hand back.
+pub enum BackAnswer {
+    Done,
+    Refused(Refusal),
+}
+
+impl BackAnswer {
+    pub fn number(self) -> u32
+        ensures { λ n. ⌜ n ≡ refusalOf (backSays self) ⌝ }
+    {
+        let answer = self;
+        match answer {
+            BackAnswer::Done => 0,
+            BackAnswer::Refused(why) => why.number(),
+        }
+    }
+}
+
+// The size query.
+pub enum SizeAnswer {
+    Length(Size),
+    Refused(Refusal),
+}
+
+impl SizeAnswer {
+    pub fn number(self) -> u32
+        ensures { λ n. ⌜ n ≡ refusalOf (sizeSays self) ⌝ }
+    {
+        let answer = self;
+        match answer {
+            SizeAnswer::Length(_) => 0,
+            SizeAnswer::Refused(why) => why.number(),
+        }
+    }
+}
+
+// The sum of the free lengths, and the value of the highest class that holds a region.
+pub struct StorageReport {
+    pub total_free_space: Size,
+    pub largest_free_region: Size,
+}
+
+// The report.
+pub enum ReportAnswer {
+    Report(StorageReport),
+    Refused(Refusal),
+}
+
+impl ReportAnswer {
+    pub fn number(self) -> u32
+        ensures { λ n. ⌜ n ≡ refusalOf (reportSays self) ⌝ }
+    {
+        let answer = self;
+        match answer {
+            ReportAnswer::Report(_) => 0,
+            ReportAnswer::Refused(why) => why.number(),
+        }
+    }
+}
+
+pub enum FullOutcome {
+    Counted,
+    Refused(Refusal),
+}
+
+// The full report: of each class from 0 to 255 its value, and how many free regions it holds; all 0 where the outcome is a refusal.
+pub struct FullAnswer {
+    pub outcome: FullOutcome,
+    pub sizes: [u64; 256],
+    pub counts: [u32; 256],
+}
+
+impl FullAnswer {
+    pub fn number(self) -> u32
+        ensures { λ n. ⌜ n ≡ refusalOf (fullSays self) ⌝ }
+    {
+        let outcome = self.outcome;
+        match outcome {
+            FullOutcome::Counted => 0,
+            FullOutcome::Refused(why) => why.number(),
+        }
+    }
+}
+
+// The audit.
+pub enum AuditAnswer {
+    Sound,
+    Refused(Refusal),
+}
+
+impl AuditAnswer {
+    pub fn number(self) -> u32
+        ensures { λ n. ⌜ n ≡ refusalOf (auditSays self) ⌝ }
+    {
+        let answer = self;
+        match answer {
+            AuditAnswer::Sound => 0,
+            AuditAnswer::Refused(why) => why.number(),
         }
     }
 }

@@ -7,7 +7,7 @@ use lib.ListN.{getD}
 use Rattle.small_float.specs.Class.{shownValue}
 use Rattle.ledger.specs.Ledger.{classes, numbersFrom}
 use Rattle.tables.specs.Questions.{counts, fullAnswer}
-use Rattle.asking.specs.Answers.{columns}
+use Rattle.answers.specs.Answers.{columns}
 
 -- two functions that agree on the n numbers from r on
 map-numbers : {B : Type 0} (f g : ℕ → B) (r n : ℕ) → ((c : ℕ) → r ≤ c → c < r + n → f c ≡ g c)

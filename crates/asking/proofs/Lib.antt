@@ -1,7 +1,6 @@
 -- Lists: the walk of a list and the count of all lists, step by step. Columns: the two columns of the full report.
--- Walk: what a question answers behind an open gate. Figures: those of a refused full report. Asked: no answer but the model's is promised.
+-- Walk: what a question answers behind an open gate. Asked: no answer but the model's is promised.
 pub mod Lists
 pub mod Columns
 pub mod Walk
-pub mod Figures
 pub mod Asked

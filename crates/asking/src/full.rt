@@ -9,9 +9,10 @@ ghost use Rattle.ledger.specs.Ledger.{refused};
 ghost use Rattle.tables.specs.Questions.{listLength, countFrom, fullAnswer};
 ghost use Rattle.answers.specs.Refusals.{numberOf};
 ghost use Rattle.bins.specs.InWords.{wordsOf, HasRoom};
-ghost use Rattle.asking.specs.Answers.{walkedOf, fullAnswerOf, FiguresOfZero};
-use crate::FullAnswer;
-use crate::FullOutcome;
+ghost use Rattle.answers.specs.Answers.{fullSays, FiguresOfZero};
+ghost use Rattle.asking.specs.Answers.{walkedOf};
+use answers::FullAnswer;
+use answers::FullOutcome;
 use answers::Refusal;
 use bins::nodes;
 use bins::totals::Totals;
@@ -25,7 +26,7 @@ pub enum Walked {
 
 // A refusal's figures are 0.
 pub fn refuse(why: Refusal) -> FullAnswer
-    ensures { λ a. ⌜ (fullAnswerOf a ≡ refused (numberOf why)) × FiguresOfZero a ⌝ }
+    ensures { λ a. ⌜ (fullSays a ≡ refused (numberOf why)) × FiguresOfZero a ⌝ }
 {
     FullAnswer {
         outcome: FullOutcome::Refused(why),
@@ -69,7 +70,7 @@ fn list_length(nodes: &[u32], max_allocs: u32, first: u32) -> Walked
 // The length of every list, or a refusal as unsound where one is circular. That the table holds every record the gate has tested.
 pub fn count(t: Totals, bin_indices: &[u32; 256], nodes: &[u32]) -> FullAnswer
     requires { ⌜ HasRoom (t .«max_allocs») (now nodes) ⌝ }
-    ensures exact { λ a. ⌜ ((leaves pile : List ℕ) → fullAnswerOf a
+    ensures exact { λ a. ⌜ ((leaves pile : List ℕ) → fullSays a
         ≡ fullAnswer (countFrom 256 (wordsOf t (now («bin_indices» .entry)) leaves (now (nodes .entry)) pile) 0 (replicate 256 0))) ⌝ }
     ensures figures { λ a. ⌜ FiguresOfZero a ⌝ }
 {

@@ -1,13 +1,16 @@
 // The questions: `allocation_size`, `storage_report` and `storage_report_full` of the Rust, in place. Nothing is written.
 //
-// Each is lent both tables, for the gate, and of the head's two arrays the one that it reads: its contract holds whatever the other holds.
-ghost use Prim.Native.Nat.{ℕ};
-ghost use mathlib.Core.List.{List};
+// Each is lent all that the other calls are lent, to be read.
 ghost use Rattle.ledger.specs.Calls.{SizeOf, Report, FullReport};
+ghost use Rattle.answers.specs.Asked.{tokenOf};
 ghost use Rattle.bins.specs.InWords.{wordsOf};
-ghost use Rattle.asking.specs.Answers.{Asked, sizeAnswerOf, reportAnswerOf, fullAnswerOf, FiguresOfZero};
+ghost use Rattle.answers.specs.Answers.{sizeSays, reportSays, fullSays, FiguresOfZero};
+ghost use Rattle.asking.specs.Answers.{Asked};
+use answers::FullAnswer;
 use answers::Handle;
 use answers::Refusal;
+use answers::ReportAnswer;
+use answers::SizeAnswer;
 use bins::gate::Gate;
 use bins::nodes;
 use bins::totals::Totals;
@@ -16,37 +19,17 @@ use small_float::Size;
 mod full;
 mod report;
 
-pub enum SizeAnswer {
-    Length(Size),
-    Refused(Refusal),
-}
-
-pub struct StorageReport {
-    pub total_free_space: Size,
-    pub largest_free_region: Size,
-}
-
-pub enum ReportAnswer {
-    Report(StorageReport),
-    Refused(Refusal),
-}
-
-pub enum FullOutcome {
-    Counted,
-    Refused(Refusal),
-}
-
-// Of each class from 0 to 255 its value, and how many free regions it holds: all 0 where the outcome is a refusal.
-pub struct FullAnswer {
-    pub outcome: FullOutcome,
-    pub sizes: [u64; 256],
-    pub counts: [u32; 256],
-}
-
 // The length of a live span.
-pub fn allocation_size(t: Totals, nodes: &[u32], free_nodes: &[u32], handle: Handle) -> SizeAnswer
-    ensures { λ a. ⌜ ((heads leaves : List ℕ) →
-        Asked (sizeAnswerOf a) (SizeOf (handle .0)) (wordsOf t heads leaves (now (nodes .entry)) (now («free_nodes» .entry)))) ⌝ }
+pub fn allocation_size(
+    t: Totals,
+    handle: Handle,
+    bin_indices: &[u32; 256],
+    used_bins: &[u8; 32],
+    nodes: &[u32],
+    free_nodes: &[u32],
+) -> SizeAnswer
+    ensures { λ a. ⌜ Asked (sizeSays a) (SizeOf (tokenOf handle))
+        (wordsOf t (now («bin_indices» .entry)) (now («used_bins» .entry)) (now (nodes .entry)) (now («free_nodes» .entry))) ⌝ }
 {
     match bins::gate::test(t.max_allocs, nodes, free_nodes, Refusal::Unsound) {
         Gate::Shut(why) => SizeAnswer::Refused(why),
@@ -62,13 +45,13 @@ pub fn allocation_size(t: Totals, nodes: &[u32], free_nodes: &[u32], handle: Han
 // The sum of the free lengths, and the value of the highest class that holds a region; 0 and 0 with one spare record.
 pub fn storage_report(
     t: Totals,
+    bin_indices: &[u32; 256],
     used_bins: &[u8; 32],
     nodes: &[u32],
     free_nodes: &[u32],
 ) -> ReportAnswer
-    ensures { λ a. ⌜ ((heads : List ℕ) →
-        Asked (reportAnswerOf a) Report
-        (wordsOf t heads (now («used_bins» .entry)) (now (nodes .entry)) (now («free_nodes» .entry)))) ⌝ }
+    ensures { λ a. ⌜ Asked (reportSays a) Report
+        (wordsOf t (now («bin_indices» .entry)) (now («used_bins» .entry)) (now (nodes .entry)) (now («free_nodes» .entry))) ⌝ }
 {
     match bins::gate::test(t.max_allocs, nodes, free_nodes, Refusal::Unsound) {
         Gate::Shut(why) => ReportAnswer::Refused(why),
@@ -80,12 +63,12 @@ pub fn storage_report(
 pub fn storage_report_full(
     t: Totals,
     bin_indices: &[u32; 256],
+    used_bins: &[u8; 32],
     nodes: &[u32],
     free_nodes: &[u32],
 ) -> FullAnswer
-    ensures exact { λ a. ⌜ ((leaves : List ℕ) →
-        Asked (fullAnswerOf a) FullReport
-        (wordsOf t (now («bin_indices» .entry)) leaves (now (nodes .entry)) (now («free_nodes» .entry)))) ⌝ }
+    ensures exact { λ a. ⌜ Asked (fullSays a) FullReport
+        (wordsOf t (now («bin_indices» .entry)) (now («used_bins» .entry)) (now (nodes .entry)) (now («free_nodes» .entry))) ⌝ }
     ensures figures { λ a. ⌜ FiguresOfZero a ⌝ }
 {
     match bins::gate::test(t.max_allocs, nodes, free_nodes, Refusal::Unsound) {

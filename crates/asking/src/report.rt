@@ -5,17 +5,17 @@ ghost use mathlib.Core.List.{[]};
 ghost use Rattle.ledger.specs.Ledger.{reported};
 ghost use Rattle.tables.specs.Questions.{reportClass, reportLeaf, reportTop, reportOf};
 ghost use Rattle.bins.specs.InWords.{wordsOf};
-ghost use Rattle.asking.specs.Answers.{reportAnswerOf};
-use crate::ReportAnswer;
-use crate::StorageReport;
+ghost use Rattle.answers.specs.Answers.{reportSays};
 use answers::Refusal;
-use bins::search;
+use answers::ReportAnswer;
+use answers::StorageReport;
 use bins::totals::Totals;
+use bitmap::search;
 use small_float::Class;
 use small_float::Size;
 
 fn figures(total: u32, largest: Size) -> ReportAnswer
-    ensures { λ a. ⌜ reportAnswerOf a ≡ reported total (largest .0) ⌝ }
+    ensures { λ a. ⌜ reportSays a ≡ reported total (largest .0) ⌝ }
 {
     ReportAnswer::Report(StorageReport {
         total_free_space: Size(total),
@@ -25,7 +25,7 @@ fn figures(total: u32, largest: Size) -> ReportAnswer
 
 // A class that a region can have.
 fn report_class(t: Totals, c: u32) -> ReportAnswer
-    ensures { λ a. ⌜ reportAnswerOf a ≡ reportClass (wordsOf t [] [] [] []) c ⌝ }
+    ensures { λ a. ⌜ reportSays a ≡ reportClass (wordsOf t [] [] [] []) c ⌝ }
 {
     if c < small_float::CLASSES_IN_USE {
         return figures(t.free_storage, small_float::float_to_uint(Class(c)));
@@ -36,7 +36,7 @@ fn report_class(t: Totals, c: u32) -> ReportAnswer
 // The highest class of a top bin, whose leaf byte is m.
 fn report_leaf(t: Totals, top: u32, m: u32) -> ReportAnswer
     requires { ⌜ top < 32 ⌝ }
-    ensures { λ a. ⌜ reportAnswerOf a ≡ reportLeaf (wordsOf t [] [] [] []) top m ⌝ }
+    ensures { λ a. ⌜ reportSays a ≡ reportLeaf (wordsOf t [] [] [] []) top m ⌝ }
 {
     if m == 0 {
         return ReportAnswer::Refused(Refusal::Unsound);
@@ -46,7 +46,7 @@ fn report_leaf(t: Totals, top: u32, m: u32) -> ReportAnswer
 
 fn report_top(t: Totals, used_bins: &[u8; 32], top: u32) -> ReportAnswer
     requires { ⌜ top < 32 ⌝ }
-    ensures { λ a. ⌜ reportAnswerOf a ≡ reportTop (wordsOf t [] (now («used_bins» .entry)) [] []) top ⌝ }
+    ensures { λ a. ⌜ reportSays a ≡ reportTop (wordsOf t [] (now («used_bins» .entry)) [] []) top ⌝ }
 {
     let i = top as usize;
     report_leaf(t, top, search::wide(used_bins[i]))
@@ -54,7 +54,7 @@ fn report_top(t: Totals, used_bins: &[u8; 32], top: u32) -> ReportAnswer
 
 // With one spare record nothing can be taken, and the report says 0 and 0.
 pub fn report(t: Totals, used_bins: &[u8; 32]) -> ReportAnswer
-    ensures { λ a. ⌜ reportAnswerOf a ≡ reportOf (wordsOf t [] (now («used_bins» .entry)) [] []) ⌝ }
+    ensures { λ a. ⌜ reportSays a ≡ reportOf (wordsOf t [] (now («used_bins» .entry)) [] []) ⌝ }
 {
     if t.free_offset == 0 {
         return figures(0, Size(0));

@@ -1,12 +1,11 @@
 -- What a row that audits is held against: the number of the audit of the store as it is lent. Assumes nothing.
 use Prim.Native.Nat.{ℕ}
 use mathlib.Core.Path.{_≡_}
-use mathlib.Core.Bool.{Bool}
+use mathlib.Core.Bool.{Bool, cond}
 use mathlib.Core.List.{List}
 use lib.Dec.{eqb, ltb}
 use lib.ListN.{length, take, set, replicate}
 use Rattle.ledger.specs.Ledger as ledger
-use Rattle.tables.specs.Layout.{pick}
 use Rattle.tables.specs.Words.{Words}
 use Rattle.tables.specs.Calls.{edition32}
 use Rattle.bins.specs.InWords.{wordsOf}
@@ -45,9 +44,9 @@ lentNumber s heads leaves nodes pile scratch =
 
 unfoldable pub numberWith : State → (heads leaves nodes pile scratch : List ℕ) → ℕ
 numberWith s heads leaves nodes pile scratch =
-    pick (ltb (length nodes) (s .nodes)) noAudit
-    (pick (ltb (length pile) (s .pile)) noAudit
-    (pick (ltb (length scratch) (s .scratch)) noAudit (lentNumber s heads leaves nodes pile scratch)))
+    cond (ltb (length nodes) (s .nodes)) noAudit
+    (cond (ltb (length pile) (s .pile)) noAudit
+    (cond (ltb (length scratch) (s .scratch)) noAudit (lentNumber s heads leaves nodes pile scratch)))
 
 -- the scratch holds 7 in each of its 16 words
 abbrev pub auditNumber : State → (heads leaves nodes pile : List ℕ) → ℕ
@@ -63,40 +62,40 @@ AgreesTells = (said found : ℕ) → OnlyIf Agrees said found → said ≡ found
 
 -- a word that has no place differs from every list
 abbrev pub placedIf : Bool → Verdict
-placedIf has-place = pick has-place Agrees Differs
+placedIf has-place = cond has-place Agrees Differs
 
 -- the scalars in the order of their declaration; another index changes none
 unfoldable pub totalPut : Totals → (i v : ℕ) → Totals
 totalPut t i v =
-    pick (eqb i 0) (record {
+    cond (eqb i 0) (record {
       size = v;
       «max_allocs» = t .«max_allocs»;
       «free_storage» = t .«free_storage»;
       «free_offset» = t .«free_offset»;
       «used_bins_top» = t .«used_bins_top»;
     })
-    (pick (eqb i 1) (record {
+    (cond (eqb i 1) (record {
       size = t .size;
       «max_allocs» = v;
       «free_storage» = t .«free_storage»;
       «free_offset» = t .«free_offset»;
       «used_bins_top» = t .«used_bins_top»;
     })
-    (pick (eqb i 2) (record {
+    (cond (eqb i 2) (record {
       size = t .size;
       «max_allocs» = t .«max_allocs»;
       «free_storage» = v;
       «free_offset» = t .«free_offset»;
       «used_bins_top» = t .«used_bins_top»;
     })
-    (pick (eqb i 3) (record {
+    (cond (eqb i 3) (record {
       size = t .size;
       «max_allocs» = t .«max_allocs»;
       «free_storage» = t .«free_storage»;
       «free_offset» = v;
       «used_bins_top» = t .«used_bins_top»;
     })
-    (pick (eqb i 4) (record {
+    (cond (eqb i 4) (record {
       size = t .size;
       «max_allocs» = t .«max_allocs»;
       «free_storage» = t .«free_storage»;

@@ -1,8 +1,8 @@
 // The parts of a head and its tables. Each can have a word put in it, for good or for one audit.
+ghost use mathlib.Core.Bool.{cond};
 ghost use mathlib.Core.Path.{_≡_};
 ghost use lib.Dec.{ltb, leb};
 ghost use lib.ListN.{length, set};
-ghost use Rattle.tables.specs.Layout.{pick};
 ghost use Rattle.audit_replay.specs.Audited.{auditNumber, OnlyIf, placedIf, totalPut, statePut};
 use crate::state;
 use crate::state::State;
@@ -73,7 +73,7 @@ pub fn total_placed(i: u32) -> Verdict
 }
 
 pub fn put_head(heads: &mut [u32; 256], i: u32, v: u32) -> Verdict
-    ensures { λ r. ⌜ (r ≡ placedIf (ltb i 256)) × (now (heads .exit) ≡ pick (ltb i 256) (set (now (heads .entry)) i v) (now (heads .entry))) ⌝ }
+    ensures { λ r. ⌜ (r ≡ placedIf (ltb i 256)) × (now (heads .exit) ≡ cond (ltb i 256) (set (now (heads .entry)) i v) (now (heads .entry))) ⌝ }
 {
     let at = i as usize;
     if 256 <= at {
@@ -84,8 +84,8 @@ pub fn put_head(heads: &mut [u32; 256], i: u32, v: u32) -> Verdict
 }
 
 pub fn put_leaf(leaves: &mut [u8; 32], i: u32, v: u32) -> Verdict
-    ensures { λ r. ⌜ (r ≡ pick (ltb i 32) (placedIf (leb v 255)) Verdict.Differs)
-        × (now (leaves .exit) ≡ pick (ltb i 32) (pick (leb v 255) (set (now (leaves .entry)) i v) (now (leaves .entry))) (now (leaves .entry))) ⌝ }
+    ensures { λ r. ⌜ (r ≡ cond (ltb i 32) (placedIf (leb v 255)) Verdict.Differs)
+        × (now (leaves .exit) ≡ cond (ltb i 32) (cond (leb v 255) (set (now (leaves .entry)) i v) (now (leaves .entry))) (now (leaves .entry))) ⌝ }
 {
     let at = i as usize;
     if 32 <= at {

@@ -1,8 +1,8 @@
 // A store that is audited: its scalars, and how much of each table is lent. The arrays stand beside it, long enough for the list's stores.
 ghost use mathlib.Core.Path.{_≡_};
-ghost use Rattle.auditing.specs.Answers.{answerOf};
+ghost use Rattle.answers.specs.Answers.{auditSays};
 ghost use Rattle.audit_replay.specs.Audited.{noStore, numberIn, numberWith, auditNumber, OnlyIf};
-use auditing::AuditAnswer;
+use answers::AuditAnswer;
 use bins::totals::Totals;
 use replay::tally::Verdict;
 
@@ -40,7 +40,7 @@ impl State {
 
 // 0 for yes, or the refusal's number.
 fn number(answer: AuditAnswer) -> u32
-    ensures { λ r. ⌜ r ≡ numberIn (answerOf answer) ⌝ }
+    ensures { λ r. ⌜ r ≡ numberIn (auditSays answer) ⌝ }
 {
     match answer {
         AuditAnswer::Sound => 0,

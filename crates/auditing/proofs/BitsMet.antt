@@ -1,6 +1,6 @@
 -- The bits: those made from the heads are those of the lists, so the tests say exactly that the bits are right. Assumes nothing.
 use mathlib.Core.Path.{_≡_, refl, ap, sym, _∙_}
-use mathlib.Core.Bool.{true}
+use mathlib.Core.Bool.{true, cond}
 use mathlib.Core.List.{List, [], _∷_}
 use Prim.Native.Nat.{ℕ, zero, suc, _+_, _*_, _≤_, _<_}
 use native.Mathlib.Omega.{arith}
@@ -10,7 +10,6 @@ use borrow.Author.Tests.{eqb-true, eq-eqb, ne-eqb}
 use Rattle.basics.proofs.Decided.{same, differ, same?}
 use Rattle.basics.proofs.Counts.{In}
 use Rattle.basics.proofs.Sums.{held-first}
-use Rattle.tables.specs.Layout.{pick}
 use Rattle.tables.specs.Words.{Edition}
 use Rattle.tables.specs.Linked.{first, mask, full}
 use Rattle.tables.proofs.Masks.{mask-same}
@@ -46,7 +45,7 @@ module _ (E : Edition) (heads leaves : List ℕ) (top : ℕ) (stacks : ℕ → L
   unfolding headBit
   head-full c l = go (stacks c) refl
     where
-      go : (xs : List ℕ) → stacks c ≡ xs → pick (eqb (getD heads c 0) (E .none)) 0 1 ≡ full (stacks c)
+      go : (xs : List ℕ) → stacks c ≡ xs → cond (eqb (getD heads c 0) (E .none)) 0 1 ≡ full (stacks c)
       go [] e = rw (eq-eqb (getD heads c 0) (E .none) (tops c l ∙ ap (λ (ys : List ℕ). first ys (E .none)) e)) (sym (ap full e))
       go (x ∷ xs) e =
           let head : getD heads c 0 ≡ x = tops c l ∙ ap (λ (ys : List ℕ). first ys (E .none)) e in

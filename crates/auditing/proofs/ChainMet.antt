@@ -2,7 +2,7 @@
 -- stands the walk ends there, with the line's counts. Assumes nothing.
 use mathlib.Core.Path.{_≡_, refl, ap, sym, _∙_, subst}
 use mathlib.Core.Logic.{_≢_}
-use mathlib.Core.Bool.{Bool, true, false, not}
+use mathlib.Core.Bool.{Bool, true, false, not, cond}
 use mathlib.Core.List.{List, [], _∷_}
 use Prim.Native.Nat.{ℕ, zero, suc, _+_, _≤_, _<_}
 use native.Mathlib.Omega.{arith}
@@ -15,7 +15,7 @@ use Rattle.basics.proofs.Counts.{In, hit, miss, match?, in-tail}
 use Rattle.basics.proofs.Sums.{held-first}
 use Rattle.ledger.specs.Ledger.{Region, live, free, len, rec, freeLen}
 use Rattle.ledger.specs.WellFormed.{Abut, Apart}
-use Rattle.tables.specs.Layout.{pick, dataOffset, dataSize, neighborPrev, neighborNext, used, word}
+use Rattle.tables.specs.Layout.{dataOffset, dataSize, neighborPrev, neighborNext, used, word}
 use Rattle.tables.specs.Words.{Edition}
 use Rattle.tables.specs.Linked.{first, Linked, recs, mark, Reads}
 use Rattle.auditing.specs.declared.chain.Walk.{Walk}
@@ -207,10 +207,10 @@ module _ (E : Edition) (nodes marks : List ℕ) (count size : ℕ) (small : coun
   walk-found (suc k) w e = go (goodRegion nodes marks count size w) refl e (walk-found k (advanced nodes w))
     where
       go : (t : Bool) → goodRegion nodes marks count size w ≡ t
-          → pick t (walkFrom k nodes marks count size (advanced nodes w)) w .here ≡ E .none
+          → cond t (walkFrom k nodes marks count size (advanced nodes w)) w .here ≡ E .none
           → (walkFrom k nodes marks count size (advanced nodes w) .here ≡ E .none
           → Found (advanced nodes w) (walkFrom k nodes marks count size (advanced nodes w)))
-          → Found w (pick t (walkFrom k nodes marks count size (advanced nodes w)) w)
+          → Found w (cond t (walkFrom k nodes marks count size (advanced nodes w)) w)
       go true g ends further = found-more w _ (is-good nodes marks count size w g) (further ends)
       go false g ends further = record { line = []; stands = stands-none w ends; met = met-none w ends }
 

@@ -9,15 +9,14 @@ use lib.ListN.{length, getD}
 use Rattle.basics.proofs.Decided.{Below, below, beyond, below?}
 use Rattle.basics.proofs.Clash.{clash}
 use Rattle.ledger.specs.Ledger.{Ledger, Answer, done, refused, setup, by-class, Stacks}
-use Rattle.ledger.specs.Calls.{Call, SizeOf, Report, FullReport}
-use Rattle.ledger.specs.Stretch.{Question, size-query, short-report, full-report}
+use Rattle.ledger.specs.Calls.{Call, SizeOf, Report, FullReport, end}
 use Rattle.ledger.proofs.Records.{all-records}
 use Rattle.ledger.proofs.CallsWell.{setup-well, call-well}
 use Rattle.ledger.proofs.ByClass.{class-laws}
 use Rattle.tables.specs.Words.{Words, Edition, withTables}
 use Rattle.tables.specs.Gate.{gateOf, gated}
 use Rattle.tables.specs.Setup.{Lent, setupWords}
-use Rattle.tables.specs.Calls.{answerWords, endWords}
+use Rattle.tables.specs.Calls.{answerWords}
 use Rattle.tables.specs.Sound.{Sound}
 use Rattle.tables.specs.Layout.{nodesNeeded, pileNeeded}
 use Rattle.tables.specs.Reach.{AgreeOn, Agree}
@@ -27,10 +26,12 @@ use Rattle.tables.proofs.Gate.{Gated, bad-count, too-short, open-gate, gated?, 
 use Rattle.tables.proofs.SoundOf.{room-of}
 use Rattle.tables.proofs.SetupSound.{setup-sound}
 use Rattle.tables.proofs.Refusals.{setup-done}
+use Rattle.tables.proofs.Kept.{question-kept}
 use Rattle.tables.proofs.Runs.{call-sound}
 use Rattle.auditing.specs.Scratch.{cleared}
-use Rattle.auditing.specs.Audit.{wordsAreSound, verdict, behindGate, gatedAudit, auditWords}
-use Rattle.auditing.specs.Claims.{OfHead, SomeLedger, AuditRoom, AuditShort, Claims}
+use Rattle.auditing.specs.Audit.{wordsAreSound, verdict, behindGate, auditWords}
+use Rattle.tables.specs.Room.{OfHead}
+use Rattle.auditing.specs.Claims.{SomeLedger, AuditRoom, AuditShort, Claims}
 use Rattle.auditing.proofs.Cleared.{cleared-length, cleared-low, cleared-high, none-marked}
 use Rattle.auditing.proofs.Unread.{tests-same}
 use Rattle.auditing.proofs.YesSound.{yes-sound}
@@ -45,7 +46,7 @@ data Audited (E : Edition) (w : Words) (scratch : List ℕ) : Type 0 where
       → Audited E w scratch
 
 audited? : (E : Edition) (w : Words) (scratch : List ℕ) → Audited E w scratch
-unfolding auditWords gatedAudit gateOf behindGate
+unfolding auditWords gated gateOf behindGate
 audited? E w scratch =
     go (gated? E 6 (w .count) (length (w .nodes)) (length (w .pile))) (below? (length scratch) (w .count))
   where
@@ -115,7 +116,7 @@ module _ (E : Edition) (w : Words) (scratch : List ℕ) where
   said-no false e = refl
 
   -- the tests say yes exactly if some ledger stands in the words
-  module _ (H : OfHead w) (r : AuditRoom E w scratch) where
+  module _ (H : OfHead E w) (r : AuditRoom E w scratch) where
     found-ledger : wordsAreSound E w (cleared (w .count) scratch) ≡ true → SomeLedger E w
     found-ledger = yes-sound E w (r .tables-room) H (cleared (w .count) scratch)
         (none-marked (w .nodes) (w .pile) (w .count) scratch (r .scratch-room))
@@ -132,7 +133,7 @@ module _ (E : Edition) (w : Words) (scratch : List ℕ) where
       at-room record { tables-room = room-of E w l S; scratch-room = h }
       ∙ rw (sound-yes E w l S (cleared (w .count) scratch) (none-marked (w .nodes) (w .pile) (w .count) scratch h))
 
-  pub done-exactly : OfHead w → (auditWords E w scratch .0 ≡ done) ↔ (AuditRoom E w scratch × SomeLedger E w)
+  pub done-exactly : OfHead E w → (auditWords E w scratch .0 ≡ done) ↔ (AuditRoom E w scratch × SomeLedger E w)
   done-exactly H = (to, λ p. answer-is (sound-audited (p .1 .0) (p .1 .1) (p .0 .scratch-room)))
     where
       to : auditWords E w scratch .0 ≡ done → AuditRoom E w scratch × SomeLedger E w
@@ -152,7 +153,7 @@ module _ (E : Edition) (w : Words) (scratch : List ℕ) where
         | tested h e ↦ absurd (never-2 _ (sym (answer-is e) ∙ d))
       ]
 
-  pub unsound-exactly : OfHead w
+  pub unsound-exactly : OfHead E w
       → (auditWords E w scratch .0 ≡ refused 6) ↔ (BadCount E (w .count) ⊎ (AuditRoom E w scratch × ¬ SomeLedger E w))
   unsound-exactly H = (to, back)
     where
@@ -253,8 +254,8 @@ same-answer E w scratch other a b = elim (audited? E w scratch) [
     short (inr s) = absurd (omega (arith, s .1))
 
 -- ---- calls
-head-of : (E : Edition) (w : Words) (l : Ledger Stacks) → Sound E w l → OfHead w
-head-of E w l S = record { size-fits = S .size-fits; heads-room = S .heads-room; leaves-room = S .leaves-room }
+head-of : (E : Edition) (w : Words) (l : Ledger Stacks) → Sound E w l → OfHead E w
+head-of E w l S = S .room .of-head
 
 module _ (E : Edition) (scratch : List ℕ) where
   -- a call keeps the count, since the ledger has it
@@ -262,40 +263,28 @@ module _ (E : Edition) (scratch : List ℕ) where
       → ((m : Ledger Stacks) × Sound E (answerWords E c w .1) m) × (answerWords E c w .1 .count ≤ length scratch)
   after-call w l S h c =
       let next = call-sound E w l S c .1 in
-      let well = call-well by-class class-laws (w .size) (w .count) (S .count-low) c l (S .well) in
+      let well = call-well by-class class-laws (w .size) (w .count) (S .room .tables .count-low) c l (S .well) in
       ((_, next), omega (arith, all-records (next .well .lined), all-records (well .lined)))
 
   run-audited : (cs : List Call) (w : Words) (l : Ledger Stacks) → Sound E w l → w .count ≤ length scratch
-      → auditWords E (endWords E cs w) scratch .0 ≡ done
-  unfolding endWords
+      → auditWords E (end (answerWords E) cs w) scratch .0 ≡ done
+  unfolding answerWords end
   run-audited [] w l S h = answer-is E w scratch (sound-audited E w scratch l S h)
   run-audited (c ∷ cs) w l S h =
       let next = after-call w l S h c in
       run-audited cs (answerWords E c w .1) (next .0 .0) (next .0 .1) (next .1)
 
-  one-call : (w : Words) → OfHead w → auditWords E w scratch .0 ≡ done → (c : Call) → auditWords E (answerWords E c w .1) scratch .0 ≡ done
+  one-call : (w : Words) → OfHead E w → auditWords E w scratch .0 ≡ done → (c : Call) → auditWords E (answerWords E c w .1) scratch .0 ≡ done
   one-call w H e c =
       let p = done-exactly E w scratch H .0 e in
       let next = after-call w (p .1 .0) (p .1 .1) (p .0 .scratch-room) c in
       answer-is E (answerWords E c w .1) scratch (sound-audited E (answerWords E c w .1) scratch (next .0 .0) (next .0 .1) (next .1))
 
-  setup-count : (size count : ℕ) (lent : Lent) → (small : size < 2 ^ 32) → (accepted : setupWords E size count lent .0 ≡ done)
+  setup-count : (size count : ℕ) (lent : Lent) → (accepted : setupWords E size count lent .0 ≡ done)
       → setupWords E size count lent .1 .count ≡ count
-  setup-count size count lent small accepted =
-      sym (all-records (setup-sound E size count lent small accepted .well .lined))
-      ∙ all-records (setup-well by-class class-laws size count (setup-done E size count lent .0 accepted .count-low) .lined)
-
--- a question gives the words as they came, whatever the gate says
-kept : (g : ℕ) (w : Words) (a : Answer) → gated g w (a, w) .1 ≡ w
-unfolding gated
-kept zero w a = refl
-kept (suc g) w a = refl
-
-question-same : (E : Edition) (c : Call) → Question c → (w : Words) → answerWords E c w .1 ≡ w
-unfolding answerWords
-question-same E (SizeOf r) size-query w = kept (gateOf E w) w _
-question-same E Report short-report w = kept (gateOf E w) w _
-question-same E FullReport full-report w = kept (gateOf E w) w _
+  setup-count size count lent accepted =
+      sym (all-records (setup-sound E size count lent accepted .well .lined))
+      ∙ all-records (setup-well by-class class-laws size count (setup-done E size count lent .0 accepted .1 .count-low) .lined)
 
 pub claims : (E : Edition) → Claims E
 claims E = record {
@@ -315,9 +304,9 @@ claims E = record {
   not-read = unread E;
   sound-yes = λ w l scratch S h. sound-audited E w scratch l S h;
   call-keeps = λ w scratch. one-call E scratch w;
-  run-keeps = λ size count lent scratch small accepted h cs.
+  run-keeps = λ size count lent scratch accepted h cs.
       run-audited E scratch cs (setupWords E size count lent .1) (setup by-class size count)
-      (setup-sound E size count lent small accepted)
-      (omega (arith, setup-count E scratch size count lent small accepted));
-  question-leaves = λ c q w scratch. ap (λ (v : Words). auditWords E v scratch) (question-same E c q w);
+      (setup-sound E size count lent accepted)
+      (omega (arith, setup-count E scratch size count lent accepted));
+  question-leaves = λ q w scratch. ap (λ (v : Words). auditWords E v scratch) (question-kept E q w);
 }

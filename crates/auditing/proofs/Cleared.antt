@@ -1,14 +1,13 @@
 -- The scratch: its words below the count are 0 once it is cleared, and the others stay; marks below the count are cleared away again.
 -- Assumes nothing.
 use mathlib.Core.Path.{_≡_, refl, sym, _∙_}
-use mathlib.Core.Bool.{Bool, true, false}
+use mathlib.Core.Bool.{Bool, true, false, cond}
 use mathlib.Core.List.{List}
 use Prim.Native.Nat.{ℕ, zero, suc, _+_, _≤_, _<_}
 use native.Mathlib.Omega.{arith}
 use lib.ListN.{length, getD, set, length-set}
 use lib.Seq.{getD-set-same, getD-set-other, ext-getD}
 use Rattle.basics.proofs.Decided.{same, differ, same?, Below, below, beyond, below?}
-use Rattle.tables.specs.Layout.{pick}
 use Rattle.auditing.specs.Scratch.{cleared}
 use Rattle.auditing.specs.Spares.{goodSpare, markFrom}
 use Rattle.auditing.proofs.Marks.{MarkedUpTo, good-low}
@@ -60,8 +59,8 @@ marks-cleared (suc k) nodes pile count i marks l = go (goodSpare nodes marks cou
     go : (t : Bool) → goodSpare nodes marks count q ≡ t
         → (length (markFrom k nodes pile count (i + 1) (set marks q 1) .marks) ≡ length (set marks q 1))
         × (cleared count (markFrom k nodes pile count (i + 1) (set marks q 1) .marks) ≡ cleared count (set marks q 1))
-        → (length (pick t (markFrom k nodes pile count (i + 1) (set marks q 1)) record { fine = false; marks = marks } .marks) ≡ length marks)
-        × (cleared count (pick t (markFrom k nodes pile count (i + 1) (set marks q 1)) record { fine = false; marks = marks } .marks)
+        → (length (cond t (markFrom k nodes pile count (i + 1) (set marks q 1)) record { fine = false; marks = marks } .marks) ≡ length marks)
+        × (cleared count (cond t (markFrom k nodes pile count (i + 1) (set marks q 1)) record { fine = false; marks = marks } .marks)
         ≡ cleared count marks)
     go true g further = (
       further .0 ∙ length-set marks q 1,

@@ -5,12 +5,12 @@ use mathlib.Core.List.{List, [], _∷_, _++_}
 use Prim.Native.Nat.{ℕ}
 use lib.ListN.{replicate}
 use Rattle.ledger.specs.Ledger.{Answer, done, granted, refused}
-use Rattle.ledger.specs.Calls.{Take, HandBack}
+use Rattle.ledger.specs.Calls.{takes, hands-back, end}
 use Rattle.tables.specs.Layout.{neighborNext, used, put, putLink, word}
 use Rattle.tables.specs.Words.{Words, withNodes, withTotal}
 use Rattle.tables.specs.Steps.{insert, insertAt, insertNodes, joinNodes, unlink, unlinkAt, popPile, pushPile}
 use Rattle.tables.specs.Setup.{tablesAlone, setupWords}
-use Rattle.tables.specs.Calls.{edition32, answerWords, endWords}
+use Rattle.tables.specs.Calls.{edition32, answerWords}
 use Rattle.small_float.specs.Class.{up}
 use Rattle.auditing.specs.Audit.{auditWords}
 
@@ -21,8 +21,8 @@ fresh = setupWords edition32 100 5 (tablesAlone (replicate 40 7) (replicate 5 9)
 
 -- a free region of 20 units, a live one of 30, and a free one of 50
 cut-up : Words
-unfolding fresh endWords answerWords insert insertAt insertNodes joinNodes unlink unlinkAt popPile pushPile put putLink word
-cut-up = endWords edition32 (Take 20 ∷ Take 30 ∷ HandBack 0 ∷ []) fresh
+unfolding fresh end answerWords insert insertAt insertNodes joinNodes unlink unlinkAt popPile pushPile put putLink word
+cut-up = end (answerWords edition32) (takes 20 ∷ takes 30 ∷ hands-back 0 ∷ []) fresh
 
 -- the audit with a scratch of one word too many, in which anything stands
 audited : Words → Answer × List ℕ
@@ -80,7 +80,7 @@ unfolding audited one-live word
 marked-absent = refl
 
 -- a call reads the link 2 as absent, and hands the region back; to the audit it is no absent link
-link-handed-back : answerWords edition32 (HandBack 1) (one-live 2) .0 ≡ done
+link-handed-back : answerWords edition32 (hands-back 1) (one-live 2) .0 ≡ done
 unfolding one-live answerWords word
 link-handed-back = refl
 
@@ -103,7 +103,7 @@ no-top-bit = record {
   pile = fresh .pile;
 }
 
-granted-without-top-bit : answerWords edition32 (Take 96) no-top-bit .0 ≡ granted 0 0
+granted-without-top-bit : answerWords edition32 (takes 96) no-top-bit .0 ≡ granted 0 0
 unfolding no-top-bit answerWords word up lib.Count.trailingZeros
 granted-without-top-bit = refl
 

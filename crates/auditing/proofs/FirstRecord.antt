@@ -1,10 +1,9 @@
 -- Where the chain begins: the one record that may begin it is found. Assumes nothing.
 use mathlib.Core.Path.{_≡_, refl, ap}
-use mathlib.Core.Bool.{Bool, true, false}
+use mathlib.Core.Bool.{Bool, true, false, cond}
 use mathlib.Core.List.{List}
 use Prim.Native.Nat.{ℕ, zero, suc, _+_, _≤_, _<_}
 use native.Mathlib.Omega.{arith}
-use Rattle.tables.specs.Layout.{pick}
 use Rattle.tables.specs.Words.{Edition}
 use Rattle.auditing.specs.Chain.{startsChain, firstRecord}
 
@@ -17,7 +16,7 @@ module _ (E : Edition) (nodes marks : List ℕ) (h : ℕ) (starts : startsChain 
       (λ l m. first-found k (i + 1) l m (λ r a b. only r (omega arith) (omega arith)))
     where
       go : (t : Bool) → startsChain E nodes marks i ≡ t → (i + 1 ≤ h → h < i + 1 + k → firstRecord E k nodes marks (i + 1) ≡ h)
-          → pick t i (firstRecord E k nodes marks (i + 1)) ≡ h
+          → cond t i (firstRecord E k nodes marks (i + 1)) ≡ h
       go true e further = only i (omega arith) (omega arith) e
       go false e further = further (omega (arith, not-here)) (omega arith)
         where

@@ -1,7 +1,7 @@
 -- The class lists: where the walk along each ends at an absent link, a run of good members stands there, and where such runs stand the walks
 -- end, their members counted. Assumes nothing.
 use mathlib.Core.Path.{_≡_, refl, ap, sym, _∙_}
-use mathlib.Core.Bool.{Bool, true, false}
+use mathlib.Core.Bool.{Bool, true, false, cond}
 use mathlib.Core.List.{List, [], _∷_}
 use Prim.Native.Nat.{ℕ, zero, suc, _+_, _-_, _≤_, _<_}
 use native.Mathlib.Omega.{arith}
@@ -14,7 +14,7 @@ use Rattle.basics.proofs.Counts.{In, hit, miss, match?, in-tail}
 use Rattle.basics.proofs.Pigeons.{sumBelow, sum-same, sum-part}
 use Rattle.basics.proofs.Sums.{held-first}
 use Rattle.small_float.specs.Class.{down}
-use Rattle.tables.specs.Layout.{pick, dataSize, binPrev, binNext, used, word}
+use Rattle.tables.specs.Layout.{dataSize, binPrev, binNext, used, word}
 use Rattle.tables.specs.Words.{Edition}
 use Rattle.tables.specs.Linked.{first, Linked}
 use Rattle.auditing.specs.declared.lists.Along.{Along}
@@ -100,10 +100,10 @@ module _ (E : Edition) (nodes marks : List ℕ) (count : ℕ) (small : count ≤
   list-found (suc k) c m e = go (goodMember nodes marks count c m) refl e (list-found k c (nextMember nodes m))
     where
       go : (t : Bool) → goodMember nodes marks count c m ≡ t
-          → pick t (listFrom k nodes marks count c (nextMember nodes m)) m .here ≡ E .none
+          → cond t (listFrom k nodes marks count c (nextMember nodes m)) m .here ≡ E .none
           → (listFrom k nodes marks count c (nextMember nodes m) .here ≡ E .none
           → Found c (nextMember nodes m) (listFrom k nodes marks count c (nextMember nodes m)))
-          → Found c m (pick t (listFrom k nodes marks count c (nextMember nodes m)) m)
+          → Found c m (cond t (listFrom k nodes marks count c (nextMember nodes m)) m)
       go true g ends further = found-more c m _ (is-good nodes marks count c m g) (further ends)
       go false g ends further = found-none c m ends
 
@@ -167,7 +167,7 @@ module _ (E : Edition) (nodes marks : List ℕ) (count : ℕ) (small : count ≤
     }
       where
         more : ℕ → List ℕ
-        more d = pick (eqb d c) (f .run) (s .stacks d)
+        more d = cond (eqb d c) (f .run) (s .stacks d)
 
         other : (d : ℕ) → (d ≡ c → ⊥) → more d ≡ s .stacks d
         other d h = rw (ne-eqb d c h)

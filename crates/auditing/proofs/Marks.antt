@@ -1,6 +1,6 @@
 -- The pile and its marks: where every spare was good, the marks count the spares, and spares in order are all good. Assumes nothing.
 use mathlib.Core.Path.{_≡_, refl, ap, sym, _∙_}
-use mathlib.Core.Bool.{Bool, true, false}
+use mathlib.Core.Bool.{Bool, true, false, cond}
 use mathlib.Core.List.{List, []}
 use Prim.Native.Nat.{ℕ, zero, suc, _+_, _≤_, _<_}
 use native.Mathlib.Omega.{arith}
@@ -15,7 +15,7 @@ use Rattle.basics.proofs.Counts.{In, Distinct, Match, hit, miss, match?}
 use Rattle.basics.proofs.Clash.{clash}
 use Rattle.basics.proofs.Sums.{held-first}
 use Rattle.basics.proofs.Counts.{in-tail, distinct-tail}
-use Rattle.tables.specs.Layout.{pick, used, word}
+use Rattle.tables.specs.Layout.{used, word}
 use Rattle.tables.specs.Linked.{stackOf}
 use Rattle.auditing.specs.Spares.{goodSpare, markFrom}
 use Rattle.auditing.proofs.Tests.{both}
@@ -88,11 +88,11 @@ module _ (nodes pile : List ℕ) (count : ℕ) where
   marked-all (suc k) i marks m e = go (goodSpare nodes marks count (getD pile i 0)) refl e (marked-all k (i + 1) (set marks (getD pile i 0) 1))
     where
       go : (t : Bool) → goodSpare nodes marks count (getD pile i 0) ≡ t
-          → pick t (markFrom k nodes pile count (i + 1) (set marks (getD pile i 0) 1)) record { fine = false; marks = marks } .fine ≡ true
+          → cond t (markFrom k nodes pile count (i + 1) (set marks (getD pile i 0) 1)) record { fine = false; marks = marks } .fine ≡ true
           → (MarkedUpTo (i + 1) (set marks (getD pile i 0) 1)
           → markFrom k nodes pile count (i + 1) (set marks (getD pile i 0) 1) .fine ≡ true
           → MarkedUpTo (i + 1 + k) (markFrom k nodes pile count (i + 1) (set marks (getD pile i 0) 1) .marks))
-          → MarkedUpTo (i + suc k) (pick t (markFrom k nodes pile count (i + 1) (set marks (getD pile i 0) 1)) record { fine = false; marks = marks } .marks)
+          → MarkedUpTo (i + suc k) (cond t (markFrom k nodes pile count (i + 1) (set marks (getD pile i 0) 1)) record { fine = false; marks = marks } .marks)
       go true g f further =
           let there : i + suc k ≡ i + 1 + k = omega arith in
           rw there (further (one-more i marks (is-good marks (getD pile i 0) g) m) f)

@@ -6,12 +6,12 @@ use Prim.Native.Nat.{ℕ}
 use Rattle.ledger.specs.Ledger.{Answer}
 use Rattle.tables.specs.Words.{Words, Edition}
 use Rattle.auditing.specs.Audit.{auditWords}
-use Rattle.auditing.specs.Claims.{OfHead}
+use Rattle.tables.specs.Room.{OfHead}
 use Rattle.auditing.specs.Promise.{AuditPromise, PromiseMeans}
 use Rattle.auditing.proofs.Claims.{claims}
 
 -- what the model leaves is promised
-model-promise : (E : Edition) (w : Words) (scratch : List ℕ) → OfHead w
+model-promise : (E : Edition) (w : Words) (scratch : List ℕ) → OfHead E w
     → AuditPromise E w scratch (auditWords E w scratch .1) (auditWords E w scratch .0)
 model-promise E w scratch H = record {
   exact = refl;
@@ -25,7 +25,7 @@ model-promise E w scratch H = record {
   scratch-beyond = claims E .scratch-beyond w scratch;
 }
 
-pub audit-promise : (E : Edition) (w : Words) (scratch : List ℕ) {left : List ℕ} {a : Answer} → OfHead w → (a, left) ≡ auditWords E w scratch
+pub audit-promise : (E : Edition) (w : Words) (scratch : List ℕ) {left : List ℕ} {a : Answer} → OfHead E w → (a, left) ≡ auditWords E w scratch
     → AuditPromise E w scratch left a
 audit-promise E w scratch H e =
     subst (λ (x : Answer × List ℕ). AuditPromise E w scratch (x .1) (x .0)) (sym e) (model-promise E w scratch H)

@@ -42,17 +42,17 @@ module _ (E : Edition) (w : Words) (l : Ledger Stacks) (S : Sound E w l) where
 
   -- ---- the pile
   spares-are : stackOf (w .pile) (w .off + 1) ≡ l .pile
-  spares-are = ap (stackOf (w .pile)) (S .spares) ∙ S .piled
+  spares-are = ap (stackOf (w .pile)) (S .spare .spares) ∙ S .spare .piled
 
   pile-in-order : InOrder (w .nodes) (w .pile) (w .count) (l .pile)
   pile-in-order = record {
     low = λ q m. one-below q (w .count) (omega (arith, S .well .lined .once q));
-    dead = S .dead;
+    dead = S .spare .dead;
     distinct = λ q. omega (arith, S .well .lined .once q, one-most (ltb q (w .count)));
   }
 
   room : w .off + 1 < w .count
-  room = omega (arith, S .spares, all-records (S .well .lined), S .well .lined .some-region)
+  room = omega (arith, S .spare .spares, all-records (S .well .lined), S .well .lined .some-region)
 
   -- ---- the records of the line
   line-low : (q : ℕ) → In q (recs (l .line)) → q < w .count
@@ -76,7 +76,7 @@ module _ (E : Edition) (w : Words) (l : Ledger Stacks) (S : Sound E w l) where
       go : (line : List Region) → l .line ≡ line → Begins (first (recs (l .line)) (E .none))
       go [] e = absurd (omega (arith, S .well .lined .some-region, ap (length {A = Region}) e))
       go (x ∷ line) e =
-          let chain = subst (λ (zs : List Region). Chain (w .nodes) (E .none) (recs zs) (E .none)) e (S .chain) in
+          let chain = subst (λ (zs : List Region). Chain (w .nodes) (E .none) (recs zs) (E .none)) e (S .line .chain) in
           let first-is : first (recs (l .line)) (E .none) ≡ rec x = ap (λ (zs : List Region). first (recs zs) (E .none)) e in
           record {
             in-line = rw first-is (subst (λ (zs : List Region). In (rec x) (recs zs)) (sym e) (held-first (rec x) (recs line)));
@@ -111,7 +111,7 @@ module _ (E : Edition) (w : Words) (l : Ledger Stacks) (S : Sound E w l) where
           ap one (lt-ltb r (w .count) low),
         ) in
         sym (first-one (word (w .nodes) neighborNext) (word (w .nodes) neighborPrev) (E .none) (E .none) (recs (l .line)) r
-        line-some (S .chain) in-line (eqb-true _ _ (t .1)))
+        line-some (S .line .chain) in-line (eqb-true _ _ (t .1)))
 
     found-start : firstRecord E (w .count) (w .nodes) marks 0 ≡ start
     found-start = first-found E (w .nodes) marks start starts (w .count) 0 (omega arith)
@@ -121,8 +121,8 @@ module _ (E : Edition) (w : Words) (l : Ledger Stacks) (S : Sound E w l) where
     line-stands : Stands E (w .nodes) marks (w .count) (w .size) small (started E start) (l .line)
     unfolding start
     line-stands = record {
-      reads = S .reads;
-      chain = S .chain;
+      reads = S .line .reads;
+      chain = S .line .chain;
       start = refl;
       low = line-low;
       unmarked = unmarked;
@@ -140,18 +140,18 @@ module _ (E : Edition) (w : Words) (l : Ledger Stacks) (S : Sound E w l) where
     chain-ends =
         let at-size : chainWalk E w marks .offset ≡ w .size = omega (arith, met .offset-is, S .well .lined .cover) in
         let counted : chainWalk E w marks .records + (w .off + 1) ≡ w .count =
-        omega (arith, met .records-is, all-records (S .well .lined), S .spares) in
-        let total-is : chainWalk E w marks .total ≡ w .total = omega (arith, met .total-is, S .sum) in
+        omega (arith, met .records-is, all-records (S .well .lined), S .spare .spares) in
+        let total-is : chainWalk E w marks .total ≡ w .total = omega (arith, met .total-is, S .total) in
         rw (eq-eqb _ _ (met .ends), eq-eqb _ _ at-size, eq-eqb _ _ counted, eq-eqb _ _ total-is)
 
     -- ---- the lists
     lists-stand : Lists E (w .nodes) marks (w .count) small (w .heads) 256 (l .index)
     lists-stand c low = record {
-      links = S .lists c;
-      start = sym (S .tops c low);
+      links = S .lists .lists c;
+      start = sym (S .lists .tops c low);
       members = λ q m.
           let f = free-of (S .well) c q m in
-          let words = reads-at (w .nodes) (f .place) (S .reads) .1 in
+          let words = reads-at (w .nodes) (f .place) (S .line .reads) .1 in
           let below-count = in-below (bounds E w) w (l .index) (l .pile) (shelf-of E w l S) c q m in
           record {
             low = below-count;
@@ -164,7 +164,7 @@ module _ (E : Edition) (w : Words) (l : Ledger Stacks) (S : Sound E w l) where
     free-regions : sumBelow 256 (λ c. length (l .index c)) ≡ chainWalk E w marks .frees
     free-regions =
         sum-same 256 (λ c. length (l .index c)) (λ c. tally (freeOfClass c) (l .line)) (λ c _. stack-length (w .size) (w .count) l (S .well) c)
-        ∙ classes-add-up (l .line) (omega (arith, S .well .lined .cover, S .size-fits))
+        ∙ classes-add-up (l .line) (omega (arith, S .well .lined .cover, S .room .of-head .size-fits, E .fits))
         ∙ omega (arith, met .frees-is)
 
     records-sound : recordsAreSound E w marks ≡ true
@@ -173,8 +173,8 @@ module _ (E : Edition) (w : Words) (l : Ledger Stacks) (S : Sound E w l) where
       chain-ends,
       lists-end E (w .nodes) marks (w .count) small (w .heads) (chainWalk E w marks .frees) (l .index) lists-stand free-regions 256 0 0 refl refl,
     ) (bits-agree E (w .heads) (w .leaves) (w .top) (l .index)
-        (λ c q low m. in-some (bounds E w) w (l .index) (l .pile) (shelf-of E w l S) c q m) (S .tops)
-        record { leaves-room = S .leaves-room; leaf-bits = S .leaf-bits; top-bits = S .top-bits })
+        (λ c q low m. in-some (bounds E w) w (l .index) (l .pile) (shelf-of E w l S) c q m) (S .lists .tops)
+        record { leaves-room = S .room .of-head .leaves-room; leaf-bits = S .bits .leaf-bits; top-bits = S .bits .top-bits })
 
   pub sound-yes : (clear : List ℕ) → MarkedUpTo (w .nodes) (w .pile) (w .count) 0 clear → wordsAreSound E w clear ≡ true
   unfolding wordsAreSound pileIsSound

@@ -1,14 +1,14 @@
 -- The audit reads no word beyond those that its count of records needs: on tables and marks that agree up to there every test says the same,
 -- sound or not. Assumes nothing.
 use mathlib.Core.Path.{_≡_, refl, ap, _∙_}
-use mathlib.Core.Bool.{Bool, true, false, _&&_}
+use mathlib.Core.Bool.{Bool, true, false, _&&_, cond}
 use mathlib.Core.List.{List}
 use Prim.Native.Nat.{ℕ, zero, suc, _+_, _-_, _≤_, _<_}
 use native.Mathlib.Omega.{arith}
 use lib.Dec.{ltb, eqb}
 use lib.ListN.{length, getD, set}
 use Rattle.basics.proofs.Decided.{below, beyond, below?}
-use Rattle.tables.specs.Layout.{pick, dataOffset, dataSize, binPrev, binNext, neighborPrev, neighborNext, used, word, nodesNeeded, pileNeeded}
+use Rattle.tables.specs.Layout.{dataOffset, dataSize, binPrev, binNext, neighborPrev, neighborNext, used, word, nodesNeeded, pileNeeded}
 use Rattle.tables.specs.Words.{Words, Edition, withTables}
 use Rattle.tables.specs.Reach.{AgreeOn}
 use Rattle.tables.proofs.Agreeing.{set-agree, word-agree}
@@ -52,8 +52,8 @@ module _ (n : ℕ) (a b : List ℕ) (N : AgreeOn (nodesNeeded n) a b) where
         r = getD pile i 0
 
         choose : (t : Bool) → Alike (markFrom k a pile n (i + 1) (set p r 1)) (markFrom k b other n (i + 1) (set q r 1))
-            → Alike (pick t (markFrom k a pile n (i + 1) (set p r 1)) record { fine = false; marks = p })
-            (pick t (markFrom k b other n (i + 1) (set q r 1)) record { fine = false; marks = q })
+            → Alike (cond t (markFrom k a pile n (i + 1) (set p r 1)) record { fine = false; marks = p })
+            (cond t (markFrom k b other n (i + 1) (set q r 1)) record { fine = false; marks = q })
         choose true further = further
         choose false further = (refl, M)
 
@@ -96,7 +96,7 @@ module _ (n : ℕ) (a b : List ℕ) (N : AgreeOn (nodesNeeded n) a b) where
     walk-same size (suc k) w = rw (region-same size w) (choose (goodRegion b q n size w) refl (walk-same size k))
       where
         choose : (t : Bool) → goodRegion b q n size w ≡ t → ((v : Walk) → walkFrom k a p n size v ≡ walkFrom k b q n size v)
-            → pick t (walkFrom k a p n size (advanced a w)) w ≡ pick t (walkFrom k b q n size (advanced b w)) w
+            → cond t (walkFrom k a p n size (advanced a w)) w ≡ cond t (walkFrom k b q n size (advanced b w)) w
         choose true g further = rw (advanced-same w (is-good b q n size w g .low)) (further (advanced b w))
         choose false g further = refl
 
@@ -123,7 +123,7 @@ module _ (n : ℕ) (a b : List ℕ) (N : AgreeOn (nodesNeeded n) a b) where
     list-same c (suc k) m = rw (member-same c m) (choose (goodMember b q n c m) refl (list-same c k))
       where
         choose : (t : Bool) → goodMember b q n c m ≡ t → ((x : Along) → listFrom k a p n c x ≡ listFrom k b q n c x)
-            → pick t (listFrom k a p n c (nextMember a m)) m ≡ pick t (listFrom k b q n c (nextMember b m)) m
+            → cond t (listFrom k a p n c (nextMember a m)) m ≡ cond t (listFrom k b q n c (nextMember b m)) m
         choose true g further = rw (next-same m (lists.is-good b q n c m g .member .low)) (further (nextMember b m))
         choose false g further = refl
 

@@ -7,11 +7,12 @@ use lib.ListN.{length}
 use borrow.Author.Tests.{lt-ltb, le-ltb}
 use Rattle.ledger.specs.Ledger.{Answer, refused}
 use Rattle.tables.specs.Words.{Words, Edition}
-use Rattle.tables.specs.Gate.{gate, gateOf}
+use Rattle.tables.specs.Gate.{gate, gateOf, gated}
 use Rattle.tables.specs.Calls.{edition32}
+use Rattle.tables.proofs.Gate.{gated-open, gated-shut}
 use Rattle.answers.specs.declared.Refusal.{Refusal}
-use Rattle.answers.specs.declared.Refusal.the-variants.{BadCount, TableTooShort, NoSpareRecord, NoRegion, NotLive, Unsound}
 use Rattle.answers.specs.Refusals.{numberOf}
+use Rattle.answers.proofs.Numbers.{above-0}
 use Rattle.bins.specs.declared.gate.Gate.{Gate}
 use Rattle.bins.specs.declared.gate.Gate.the-variants.{Shut}
 use Rattle.bins.specs.InWords.{gateNumber}
@@ -21,17 +22,7 @@ use Rattle.auditing.specs.Spares.{markFrom}
 use Rattle.auditing.specs.Chain.{firstRecord, walkFrom, started, walkEnds}
 use Rattle.auditing.specs.Lists.{listsFrom}
 use Rattle.auditing.specs.Bits.{bitsAgree}
-use Rattle.auditing.specs.Audit.{
-  chainWalk,
-  endIsSound,
-  recordsAreSound,
-  pileIsSound,
-  wordsAreSound,
-  verdict,
-  behindGate,
-  gatedAudit,
-  auditWords,
-}
+use Rattle.auditing.specs.Audit.{chainWalk, endIsSound, recordsAreSound, pileIsSound, wordsAreSound, verdict, behindGate, auditWords}
 use Rattle.auditing.proofs.Cleared.{cleared-twice}
 
 -- ---- chain, lists and bits
@@ -94,13 +85,11 @@ module _ (E : Edition) (w : Words) (scratch : List ℕ) where
 -- ---- the gate
 module _ (w : Words) (scratch : List ℕ) where
   by-number : (why : Refusal) → gateOf edition32 w ≡ numberOf why → (refused (numberOf why), scratch) ≡ auditWords edition32 w scratch
-  unfolding auditWords gatedAudit
-  by-number BadCount e = rw e
-  by-number TableTooShort e = rw e
-  by-number NoSpareRecord e = rw e
-  by-number NoRegion e = rw e
-  by-number NotLive e = rw e
-  by-number Unsound e = rw e
+  unfolding auditWords
+  by-number why e =
+      let n = above-0 why in
+      ap (λ (k : ℕ). (refused k, scratch)) (n .1)
+      ∙ sym (gated-shut (gateOf edition32 w) (n .0) scratch (behindGate edition32 w scratch) (e ∙ n .1))
 
   pub shut-out : {g : Gate} {why : Refusal} → gateNumber g ≡ gate edition32 6 (w .count) (length (w .nodes)) (length (w .pile)) → g ≡ Shut why
       → (refused (numberOf why), scratch) ≡ auditWords edition32 w scratch
@@ -109,5 +98,5 @@ module _ (w : Words) (scratch : List ℕ) where
 
   pub let-in : {outcome : Answer × List ℕ} → gateOf edition32 w ≡ 0 → outcome ≡ behindGate edition32 w scratch
       → outcome ≡ auditWords edition32 w scratch
-  unfolding auditWords gatedAudit
+  unfolding auditWords gated
   let-in e f = f ∙ rw e

@@ -1,13 +1,12 @@
 -- The audit: all its tests in order, and the call with its gate and its scratch. Assumes nothing.
 use mathlib.Core.Bool.{Bool, true, false, _&&_}
-use mathlib.Core.List.{List}
+use mathlib.Core.List.{List, [], _∷_}
 use Prim.Native.Nat.{ℕ, zero, suc, _+_}
 use lib.Dec.{ltb}
 use lib.ListN.{length}
 use Rattle.ledger.specs.Ledger.{Answer, done, refused}
-use Rattle.tables.specs.Layout.{pick}
 use Rattle.tables.specs.Words.{Words, Edition}
-use Rattle.tables.specs.Gate.{gateOf}
+use Rattle.tables.specs.Gate.{short, gateOf, gated}
 use Rattle.auditing.specs.declared.chain.Walk.{Walk}
 use Rattle.auditing.specs.Scratch.{cleared}
 use Rattle.auditing.specs.Spares.{Marked, markFrom}
@@ -59,16 +58,11 @@ verdict false = refused 6
 
 -- the scratch's length comes last of the lengths; found sound or not, its words below the count are 0 at the end
 unfoldable pub behindGate : Edition → Words → (scratch : List ℕ) → Answer × List ℕ
-unfolding verdict wordsAreSound cleared
+unfolding gated verdict wordsAreSound cleared
 behindGate E w scratch =
-    pick (ltb (length scratch) (w .count)) (refused 2, scratch)
+    gated (short ((length scratch, w .count) ∷ [])) scratch
     (verdict (wordsAreSound E w (cleared (w .count) scratch)), cleared (w .count) scratch)
 
--- refused by the gate, it leaves the scratch as it came
-unfoldable pub gatedAudit : ℕ → (scratch : List ℕ) → Answer × List ℕ → Answer × List ℕ
-gatedAudit zero scratch outcome = outcome
-gatedAudit (suc k) scratch outcome = (refused (suc k), scratch)
-
 unfoldable pub auditWords : Edition → Words → (scratch : List ℕ) → Answer × List ℕ
-unfolding gatedAudit gateOf behindGate
-auditWords E w scratch = gatedAudit (gateOf E w) scratch (behindGate E w scratch)
+unfolding gated gateOf behindGate
+auditWords E w scratch = gated (gateOf E w) scratch (behindGate E w scratch)

@@ -1,16 +1,15 @@
 -- "a bit is set exactly where a list, or a leaf byte, is non-empty". Assumes nothing.
-use mathlib.Core.Bool.{Bool, true, _&&_}
+use mathlib.Core.Bool.{Bool, true, _&&_, cond}
 use mathlib.Core.List.{List}
 use Prim.Native.Nat.{ℕ, zero, suc, _+_, _*_}
 use lib.Dec.{eqb}
 use lib.ListN.{getD}
-use Rattle.tables.specs.Layout.{pick}
 use Rattle.tables.specs.Words.{Edition}
 use Rattle.tables.specs.Linked.{mask, nonZero}
 
 -- 1 where the head of a list is no absent link
 unfoldable pub headBit : Edition → ℕ → ℕ
-headBit E head = pick (eqb head (E .none)) 0 1
+headBit E head = cond (eqb head (E .none)) 0 1
 
 -- the leaf byte and the top word that there should be
 unfoldable pub leafOf : Edition → (heads : List ℕ) → ℕ → ℕ

@@ -1,11 +1,11 @@
 -- "every other record .. occurs once in the neighbour chain, which runs from 0 to the size, links agreeing both ways, no two free in a row".
 -- Assumes nothing.
-use mathlib.Core.Bool.{Bool, not, _&&_, _||_}
+use mathlib.Core.Bool.{Bool, not, _&&_, _||_, cond}
 use mathlib.Core.List.{List}
 use Prim.Native.Nat.{ℕ, zero, suc, _+_}
 use lib.Dec.{ltb, eqb}
 use lib.ListN.{getD}
-use Rattle.tables.specs.Layout.{pick, dataOffset, dataSize, neighborPrev, neighborNext, used, word}
+use Rattle.tables.specs.Layout.{dataOffset, dataSize, neighborPrev, neighborNext, used, word}
 use Rattle.tables.specs.Words.{Edition}
 use Rattle.auditing.specs.declared.chain.Walk.{Walk}
 
@@ -19,7 +19,7 @@ startsChain E nodes marks r =
 unfoldable pub firstRecord : Edition → ℕ → (nodes marks : List ℕ) → ℕ → ℕ
 unfolding startsChain
 firstRecord E zero nodes marks i = E .none
-firstRecord E (suc k) nodes marks i = pick (startsChain E nodes marks i) i (firstRecord E k nodes marks (i + 1))
+firstRecord E (suc k) nodes marks i = cond (startsChain E nodes marks i) i (firstRecord E k nodes marks (i + 1))
 
 -- ---- one region
 -- the used word is 0 or 1; "no two free in a row": not 0 after a 0
@@ -51,8 +51,8 @@ advanced nodes w = record {
   offset = w .offset + word nodes dataSize (w .here);
   used = word nodes used (w .here);
   records = w .records + 1;
-  frees = pick (eqb (word nodes used (w .here)) 0) (w .frees + 1) (w .frees);
-  total = pick (eqb (word nodes used (w .here)) 0) (w .total + word nodes dataSize (w .here)) (w .total);
+  frees = cond (eqb (word nodes used (w .here)) 0) (w .frees + 1) (w .frees);
+  total = cond (eqb (word nodes used (w .here)) 0) (w .total + word nodes dataSize (w .here)) (w .total);
 }
 
 -- ---- the walk
@@ -65,7 +65,7 @@ unfoldable pub walkFrom : ℕ → (nodes marks : List ℕ) → (count size : ℕ
 unfolding goodRegion advanced
 walkFrom zero nodes marks count size w = w
 walkFrom (suc k) nodes marks count size w =
-    pick (goodRegion nodes marks count size w) (walkFrom k nodes marks count size (advanced nodes w)) w
+    cond (goodRegion nodes marks count size w) (walkFrom k nodes marks count size (advanced nodes w)) w
 
 -- what is asked of the place where the walk ended
 unfoldable pub walkEnds : Edition → (size count total spares : ℕ) → Walk → Bool

@@ -1,6 +1,6 @@
 -- The audit on words, to be read in this order.
 -- Scratch: the marks. Spares: the pile. Chain: the neighbour chain. Lists: the class lists. Bits: the two levels of bits.
--- Audit: all the tests together, and the call. Answers: the code's answers as the ledger's. Claims: all that is claimed of the audit.
+-- Audit: all the tests together, and the call. Claims: all that is claimed of the audit.
 -- Promise: what the audit in code promises.
 pub mod Scratch
 pub mod Spares
@@ -8,6 +8,5 @@ pub mod Chain
 pub mod Lists
 pub mod Bits
 pub mod Audit
-pub mod Answers
 pub mod Claims
 pub mod Promise

@@ -1,12 +1,12 @@
 -- "each class list holds exactly the free regions of its class, links agreeing both ways": each member is a free region of the class, and
 -- all lists together have as many members as there are free regions. Assumes nothing.
-use mathlib.Core.Bool.{Bool, _&&_}
+use mathlib.Core.Bool.{Bool, _&&_, cond}
 use mathlib.Core.List.{List}
 use Prim.Native.Nat.{ℕ, zero, suc, _+_, _-_}
 use lib.Dec.{ltb, eqb}
 use lib.ListN.{getD}
 use Rattle.small_float.specs.Class.{down}
-use Rattle.tables.specs.Layout.{pick, dataSize, binPrev, binNext, used, word}
+use Rattle.tables.specs.Layout.{dataSize, binPrev, binNext, used, word}
 use Rattle.tables.specs.Words.{Edition}
 use Rattle.auditing.specs.declared.lists.Along.{Along}
 
@@ -31,7 +31,7 @@ unfoldable pub listFrom : ℕ → (nodes marks : List ℕ) → (count c : ℕ) �
 unfolding goodMember nextMember
 listFrom zero nodes marks count c m = m
 listFrom (suc k) nodes marks count c m =
-    pick (goodMember nodes marks count c m) (listFrom k nodes marks count c (nextMember nodes m)) m
+    cond (goodMember nodes marks count c m) (listFrom k nodes marks count c (nextMember nodes m)) m
 
 -- before the first member of class c's list
 abbrev pub atHead : Edition → (heads : List ℕ) → (c listed : ℕ) → Along

@@ -9,14 +9,15 @@ use Rattle.ledger.specs.Ledger.{Answer, done, refused}
 use Rattle.tables.specs.Words.{Words, Edition}
 use Rattle.tables.specs.Claims.{BadCount}
 use Rattle.auditing.specs.Audit.{auditWords}
-use Rattle.auditing.specs.Claims.{OfHead, SomeLedger, AuditRoom, AuditShort}
+use Rattle.tables.specs.Room.{OfHead}
+use Rattle.auditing.specs.Claims.{SomeLedger, AuditRoom, AuditShort}
 
 -- the audit of the words w, lent the scratch, answers a and leaves the scratch so
 pub record AuditPromise (E : Edition) (w : Words) (scratch left : List ℕ) (a : Answer) : Type 0 where
   -- answer and scratch are the model's, for all words
   pub exact : (a, left) ≡ auditWords E w scratch
   -- w is what a head's types allow: the code shows it, and asks nobody for it
-  pub of-head : OfHead w
+  pub of-head : OfHead E w
   -- yes exactly if the tables are long enough and some ledger stands in them
   pub yes-exactly : (a ≡ done) ↔ (AuditRoom E w scratch × SomeLedger E w)
   -- 2 exactly for a length; 6 exactly for the count, or where the tables are long enough and no ledger stands in them; and no other answer
@@ -32,4 +33,4 @@ pub record AuditPromise (E : Edition) (w : Words) (scratch left : List ℕ) (a :
 pub record PromiseMeans (E : Edition) : Type 0 where
   -- it is kept exactly where the words are a head's, and answer and scratch are the model's
   pub kept-exactly : (w : Words) (scratch left : List ℕ) (a : Answer)
-      → AuditPromise E w scratch left a ↔ (OfHead w × ((a, left) ≡ auditWords E w scratch))
+      → AuditPromise E w scratch left a ↔ (OfHead E w × ((a, left) ≡ auditWords E w scratch))

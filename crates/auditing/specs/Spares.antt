@@ -1,10 +1,10 @@
 -- "spare record numbers are distinct, below the count, not marked live". Assumes nothing.
-use mathlib.Core.Bool.{Bool, true, false, _&&_}
+use mathlib.Core.Bool.{Bool, true, false, _&&_, cond}
 use mathlib.Core.List.{List}
 use Prim.Native.Nat.{ℕ, zero, suc, _+_}
 use lib.Dec.{ltb, eqb}
 use lib.ListN.{getD, set}
-use Rattle.tables.specs.Layout.{pick, used, word}
+use Rattle.tables.specs.Layout.{used, word}
 
 -- one of them, those before it being marked
 unfoldable pub goodSpare : (nodes marks : List ℕ) → (count r : ℕ) → Bool
@@ -26,6 +26,6 @@ unfoldable pub markFrom : ℕ → (nodes pile : List ℕ) → (count i : ℕ) �
 unfolding goodSpare
 markFrom zero nodes pile count i marks = record { fine = true; marks = marks }
 markFrom (suc k) nodes pile count i marks =
-    pick (goodSpare nodes marks count (getD pile i 0))
+    cond (goodSpare nodes marks count (getD pile i 0))
     (markFrom k nodes pile count (i + 1) (set marks (getD pile i 0) 1))
     record { fine = false; marks = marks }

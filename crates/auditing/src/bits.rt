@@ -60,7 +60,7 @@ fn leaves_agree(bin_indices: &[u32; 256], used_bins: &[u8; 32]) -> bool
     let mut t: u32 = 0;
     while t < 32 {
         let i = t as usize;
-        if bins::search::wide(used_bins[i]) != leaf_of(bin_indices, t) {
+        if bitmap::search::wide(used_bins[i]) != leaf_of(bin_indices, t) {
             return false;
         }
         t += 1;

@@ -4,13 +4,13 @@ ghost use Prim.Native.Nat.{ℕ, _≤_, _<_, _+_};
 ghost use mathlib.Core.List.{List, []};
 ghost use lib.ListN.{length};
 ghost use Rattle.tables.specs.Calls.{edition32};
-ghost use Rattle.tables.specs.Reach.{Room};
+ghost use Rattle.tables.specs.Room.{Room, OfHead};
 ghost use Rattle.bins.specs.InWords.{wordsOf, HasRoom};
 ghost use Rattle.auditing.specs.Scratch.{cleared};
 ghost use Rattle.auditing.specs.Audit.{recordsAreSound, wordsAreSound, behindGate};
-ghost use Rattle.auditing.specs.Claims.{OfHead};
 ghost use Rattle.auditing.specs.Promise.{AuditPromise};
-ghost use Rattle.auditing.specs.Answers.{answerOf};
+ghost use Rattle.answers.specs.Answers.{auditSays};
+use answers::AuditAnswer;
 use answers::Refusal;
 use bins::gate::Gate;
 use bins::totals::Totals;
@@ -20,11 +20,6 @@ mod chain;
 mod lists;
 mod scratch;
 mod spares;
-
-pub enum AuditAnswer {
-    Sound,
-    Refused(Refusal),
-}
 
 // Chain, lists and bits, once the spare records are marked.
 fn records_are_sound(
@@ -80,7 +75,7 @@ fn words_are_sound(
 }
 
 fn verdict(sound: bool) -> AuditAnswer
-    ensures { λ a. ⌜ answerOf a ≡ Rattle.auditing.specs.Audit.verdict sound ⌝ }
+    ensures { λ a. ⌜ auditSays a ≡ Rattle.auditing.specs.Audit.verdict sound ⌝ }
 {
     if sound {
         return AuditAnswer::Sound;
@@ -98,7 +93,7 @@ fn behind_gate(
     scratch: &mut [u32],
 ) -> AuditAnswer
     requires { ⌜ Room edition32 (t .«max_allocs») (length (now nodes)) (length (now «free_nodes»)) ⌝ }
-    ensures { λ a. ⌜ (answerOf a, now (scratch .exit))
+    ensures { λ a. ⌜ (auditSays a, now (scratch .exit))
         ≡ behindGate edition32
         (wordsOf t (now («bin_indices» .entry)) (now («used_bins» .entry)) (now (nodes .entry)) (now («free_nodes» .entry)))
         (now (scratch .entry)) ⌝ }
@@ -118,7 +113,7 @@ fn as_slices(_heads: &[u32], _leaves: &[u8]) {}
 
 // What the types of a head's parts say of its words, whatever tables go with them.
 fn of_head(t: Totals, bin_indices: &[u32; 256], used_bins: &[u8; 32])
-    ensures { λ _. ⌜ ((nodes pile : List ℕ) → OfHead (wordsOf t (now («bin_indices» .entry)) (now («used_bins» .entry)) nodes pile)) ⌝ }
+    ensures { λ _. ⌜ ((nodes pile : List ℕ) → OfHead edition32 (wordsOf t (now («bin_indices» .entry)) (now («used_bins» .entry)) nodes pile)) ⌝ }
 {
     as_slices(bin_indices, used_bins)
 }
@@ -134,7 +129,7 @@ pub fn audit(
 ) -> AuditAnswer
     ensures { λ a. ⌜ AuditPromise edition32
         (wordsOf t (now («bin_indices» .entry)) (now («used_bins» .entry)) (now (nodes .entry)) (now («free_nodes» .entry)))
-        (now (scratch .entry)) (now (scratch .exit)) (answerOf a) ⌝ }
+        (now (scratch .entry)) (now (scratch .exit)) (auditSays a) ⌝ }
 {
     of_head(t, bin_indices, used_bins);
     match bins::gate::test(t.max_allocs, nodes, free_nodes, Refusal::Unsound) {

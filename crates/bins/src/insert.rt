@@ -77,7 +77,7 @@ fn insert_into_class(
     let i = c as usize;
     let old_top = bin_indices[i];
     let max_allocs = t.max_allocs;
-    let top = crate::bits::mark(used_bins, t.used_bins_top, max_allocs, c, old_top);
+    let top = bitmap::bits::mark(used_bins, t.used_bins_top, max_allocs, c, old_top);
     write_record(nodes, max_allocs, m, size, offset, old_top, prev, next);
     join_neighbors(nodes, max_allocs, m, prev, next);
     bin_indices[i] = m;

@@ -1,10 +1,10 @@
 // remove_node_from_bin of the Rust, but for the pile and the free total: a record leaves the list of its class.
+ghost use mathlib.Core.Bool.{cond};
 ghost use mathlib.Core.Path.{_≡_};
 ghost use Prim.Native.Nat.{ℕ, _<_};
 ghost use mathlib.Core.List.{List};
 ghost use lib.Dec.{ltb};
 ghost use lib.ListN.{set};
-ghost use Rattle.tables.specs.Layout.{pick};
 ghost use Rattle.tables.specs.Steps.{unlinkAt, unlink};
 ghost use Rattle.bins.specs.InWords.{wordsOf, bound, HasRoom, InTable};
 use crate::nodes;
@@ -14,7 +14,7 @@ use small_float::Size;
 // The class's top is the record after the one that leaves, unless one stands before it.
 fn lead(bin_indices: &mut [u32; 256], max_allocs: u32, c: u32, prev: u32, next: u32)
     requires { ⌜ c < 256 ⌝ }
-    ensures { λ _. ⌜ now («bin_indices» .exit) ≡ pick (ltb prev «max_allocs») (now («bin_indices» .entry)) (set (now («bin_indices» .entry)) c next) ⌝ }
+    ensures { λ _. ⌜ now («bin_indices» .exit) ≡ cond (ltb prev «max_allocs») (now («bin_indices» .entry)) (set (now («bin_indices» .entry)) c next) ⌝ }
 {
     if prev < max_allocs {
         return;
@@ -41,7 +41,7 @@ pub fn remove_from_class(
         (wordsOf t (now («bin_indices» .entry)) (now («used_bins» .entry)) (now (nodes .entry)) ps) c prev next) ⌝ }
 {
     let max_allocs = t.max_allocs;
-    let top = crate::bits::unmark(used_bins, t.used_bins_top, max_allocs, c, prev, next);
+    let top = bitmap::bits::unmark(used_bins, t.used_bins_top, max_allocs, c, prev, next);
     lead(bin_indices, max_allocs, c, prev, next);
     nodes::put_link(nodes, max_allocs, prev, nodes::BIN_LIST_NEXT, next);
     nodes::put_link(nodes, max_allocs, next, nodes::BIN_LIST_PREV, prev);

@@ -6,25 +6,15 @@ use Rattle.ledger.specs.Ledger as ledger
 use Rattle.tables.specs.Words.{Words}
 use Rattle.tables.specs.Calls.{edition32}
 use Rattle.auditing.specs.Promise.{AuditPromise}
-use Rattle.bins.specs.declared.totals.Totals.{Totals}
 use Rattle.offset_allocator.specs.declared.head.Head.{Head}
-use Rattle.offset_allocator.specs.HeadWords.{headWords, headOf, totalsOf}
+use Rattle.offset_allocator.specs.HeadWords.{headWords}
 use Rattle.judging.specs.declared.answer.Answer.{Answer}
 use Rattle.judging.specs.declared.call.Call.{Call}
 use Rattle.judging.specs.declared.store.Store.{Store}
 use Rattle.telling.specs.Told.{told}
-use Rattle.calling.specs.Made.{made, byValue, storeWords, storeOf, AskedOn}
+use Rattle.calling.specs.Made.{made, byValue, storeWords, headIn, storeOf, AskedOn}
 
-pub stored : (h : Head) {t : Totals} (nodes pile : List ℕ) → t ≡ totalsOf h
-    → record { totals = t; «bin_indices» = h .«bin_indices»; «used_bins» = h .«used_bins»; nodes = nodes; «free_nodes» = pile } ≡ storeOf h nodes pile
-stored h nodes pile e = ap (λ (x : Totals).
-    record { totals = x; «bin_indices» = h .«bin_indices»; «used_bins» = h .«used_bins»; nodes = nodes; «free_nodes» = pile }) e
-
--- a head made of a store is the store's
-abbrev itsHead : Store → Head
-itsHead s = headOf (s .totals) (s .«used_bins») (s .«bin_indices»)
-
-pub by-value-on : (call : Call) (before : Store) {after : Store} {head left : Head} {b : Answer} {ns ps : List ℕ} → head ≡ itsHead before
+pub by-value-on : (call : Call) (before : Store) {after : Store} {head left : Head} {b : Answer} {ns ps : List ℕ} → head ≡ headIn before
     → after ≡ storeOf left ns ps
     → _≡_ {A = Answer × Words} (b, headWords left ns ps) (made byValue call (headWords head (before .nodes) (before .«free_nodes»)))
     → _≡_ {A = Answer × Words} (b, storeWords after) (made byValue call (storeWords before))
@@ -42,7 +32,7 @@ asked-on before t same p = record {
 }
 
 pub asked-by-value : (before : Store) {after : Store} {head : Head} {scratch left : List ℕ} {a : ledger.Answer} {b : Answer} → b ≡ told a
-    → head ≡ itsHead before → after ≡ storeOf head (before .nodes) (before .«free_nodes»)
+    → head ≡ headIn before → after ≡ storeOf head (before .nodes) (before .«free_nodes»)
     → AuditPromise edition32 (headWords head (before .nodes) (before .«free_nodes»)) scratch left a
     → AskedOn before scratch record { answer = b; after = after } left
 asked-by-value before {scratch = scratch} {left = left} {a = a} t h same p =

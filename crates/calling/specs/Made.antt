@@ -17,7 +17,6 @@ use Rattle.judging.specs.declared.call.Call.the-variants as call
 use Rattle.judging.specs.declared.store.Store.{Store}
 use Rattle.judging.specs.declared.made.Made.{Made}
 use Rattle.offset_allocator.specs.declared.head.Head.{Head}
-use Rattle.offset_allocator.specs.HeadWords.{totalsOf}
 use Rattle.telling.specs.Told.{told, toldAs, classIn, heldIn}
 
 -- an answer told, and the words beside it
@@ -34,12 +33,12 @@ byValue w = tablesAlone (w .nodes) (w .pile)
 abbrev pub made : (Words → Lent) → Call → Words → Answer × Words
 made lends (call.SetUp size count) w = toldBy (setupWords edition32 size count (lends w))
 made lends call.Reset w = toldBy (answerWords edition32 ledger-calls.Reset w)
-made lends (call.Take size) w = toldBy (answerWords edition32 (ledger-calls.Take size) w)
-made lends (call.HandBack number) w = toldBy (answerWords edition32 (ledger-calls.HandBack number) w)
-made lends (call.SizeOf number) w = toldBy (answerWords edition32 (ledger-calls.SizeOf number) w)
-made lends call.Report w = toldBy (answerWords edition32 ledger-calls.Report w)
-made lends (call.ClassOf class) w = (toldAs (classIn class) (answerWords edition32 ledger-calls.FullReport w .0), w)
-made lends call.ClassesHeld w = (toldAs heldIn (answerWords edition32 ledger-calls.FullReport w .0), w)
+made lends (call.Take size) w = toldBy (answerWords edition32 (ledger-calls.takes size) w)
+made lends (call.HandBack number) w = toldBy (answerWords edition32 (ledger-calls.hands-back number) w)
+made lends (call.SizeOf number) w = toldBy (answerWords edition32 (ledger-calls.asks-size number) w)
+made lends call.Report w = toldBy (answerWords edition32 (ledger-calls.Ask ledger-calls.Report) w)
+made lends (call.ClassOf class) w = (toldAs (classIn class) (answerWords edition32 (ledger-calls.Ask ledger-calls.FullReport) w .0), w)
+made lends call.ClassesHeld w = (toldAs heldIn (answerWords edition32 (ledger-calls.Ask ledger-calls.FullReport) w .0), w)
 made lends call.Nothing w = (Nothing, w)
 
 -- ---- on a copy of a head with its tables
@@ -56,10 +55,13 @@ pub record AskedOn (before : Store) (scratch : List ℕ) (m : Made) (left : List
   pub scratch-is : left ≡ auditWords edition32 (storeWords before) scratch .1
   pub words-are : m .after ≡ before
 
--- a head with its tables, as a store
+-- a store's head, and a head with its tables as a store
+abbrev pub headIn : Store → Head
+headIn s = record { totals = s .totals; «bin_indices» = s .«bin_indices»; «used_bins» = s .«used_bins» }
+
 abbrev pub storeOf : Head → (nodes pile : List ℕ) → Store
 storeOf h nodes pile =
-    record { totals = totalsOf h; «bin_indices» = h .«bin_indices»; «used_bins» = h .«used_bins»; nodes = nodes; «free_nodes» = pile }
+    record { totals = h .totals; «bin_indices» = h .«bin_indices»; «used_bins» = h .«used_bins»; nodes = nodes; «free_nodes» = pile }
 
 -- ---- so a call and an audit have one outcome: any two that these allow are the same, to the last word. proofs/Once.antt makes it
 pub record OneOutcome : Type 0 where

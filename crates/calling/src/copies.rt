@@ -1,8 +1,7 @@
 // A call made on a copy of a head with its tables, in each of the two forms.
 ghost use mathlib.Core.Path.{_≡_};
 ghost use lib.ListN.{replicate};
-ghost use Rattle.offset_allocator.specs.HeadWords.{headOf};
-ghost use Rattle.calling.specs.Made.{inPlace, byValue, storeOf, MadeOn, AskedOn};
+ghost use Rattle.calling.specs.Made.{inPlace, byValue, headIn, storeOf, MadeOn, AskedOn};
 use judging::audits;
 use judging::audits::Audited;
 use judging::call::Call;
@@ -40,18 +39,22 @@ pub fn in_place(call: Call, before: Store) -> Made
 }
 
 fn head_of(store: Store) -> Head
-    ensures { λ h. ⌜ h ≡ headOf (store .totals) (store .«used_bins») (store .«bin_indices») ⌝ }
+    ensures { λ h. ⌜ h ≡ headIn store ⌝ }
 {
-    let t = store.totals;
+    let totals = store.totals;
     let bin_indices = store.bin_indices;
     let used_bins = store.used_bins;
-    Head::of(t, used_bins, bin_indices)
+    Head {
+        totals,
+        bin_indices,
+        used_bins,
+    }
 }
 
 fn store_of(head: Head, nodes: [u32; 144], free_nodes: [u32; 16]) -> Store
     ensures { λ s. ⌜ s ≡ storeOf head nodes «free_nodes» ⌝ }
 {
-    let totals = head.totals();
+    let totals = head.totals;
     let bin_indices = head.bin_indices;
     let used_bins = head.used_bins;
     Store {

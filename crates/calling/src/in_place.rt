@@ -80,7 +80,7 @@ fn take(
         (r .answer, wordsOf (r .totals) (now («bin_indices» .exit)) (now («used_bins» .exit)) (now (nodes .exit)) (now («free_nodes» .entry)))
         (made inPlace (Take size) (wordsOf t (now («bin_indices» .entry)) (now («used_bins» .entry)) (now (nodes .entry)) (now («free_nodes» .entry)))) ⌝ }
 {
-    let taken = taking::allocate(t, bin_indices, used_bins, nodes, free_nodes, Size(size));
+    let taken = taking::allocate(t, Size(size), bin_indices, used_bins, nodes, free_nodes);
     let given = taken.answer;
     let totals = taken.totals;
     Called {
@@ -102,7 +102,7 @@ fn hand_back(
         (made inPlace (HandBack number)
         (wordsOf t (now («bin_indices» .entry)) (now («used_bins» .entry)) (now (nodes .entry)) (now («free_nodes» .entry)))) ⌝ }
 {
-    let returned = giving::free(t, bin_indices, used_bins, nodes, free_nodes, Handle(number));
+    let returned = giving::free(t, Handle(number), bin_indices, used_bins, nodes, free_nodes);
     let given = returned.answer;
     let totals = returned.totals;
     Called {
@@ -112,24 +112,46 @@ fn hand_back(
 }
 
 // The questions, which change nothing.
-fn size_of(t: Totals, nodes: &[u32], free_nodes: &[u32], number: u32) -> Called
-    ensures { λ r. ⌜ ((heads leaves : List ℕ) → _≡_ {A = Told × Words}
-        (r .answer, wordsOf (r .totals) heads leaves (now (nodes .entry)) (now («free_nodes» .entry)))
-        (made inPlace (SizeOf number) (wordsOf t heads leaves (now (nodes .entry)) (now («free_nodes» .entry))))) ⌝ }
+fn size_of(
+    t: Totals,
+    bin_indices: &[u32; 256],
+    used_bins: &[u8; 32],
+    nodes: &[u32],
+    free_nodes: &[u32],
+    number: u32,
+) -> Called
+    ensures { λ r. ⌜ _≡_ {A = Told × Words}
+        (r .answer, wordsOf (r .totals) (now («bin_indices» .entry)) (now («used_bins» .entry)) (now (nodes .entry)) (now («free_nodes» .entry)))
+        (made inPlace (SizeOf number)
+        (wordsOf t (now («bin_indices» .entry)) (now («used_bins» .entry)) (now (nodes .entry)) (now («free_nodes» .entry)))) ⌝ }
 {
-    let given = asking::allocation_size(t, nodes, free_nodes, Handle(number));
+    let given = asking::allocation_size(
+        t,
+        Handle(number),
+        bin_indices,
+        used_bins,
+        nodes,
+        free_nodes,
+    );
     Called {
         answer: told::of_size(given),
         totals: t,
     }
 }
 
-fn report(t: Totals, used_bins: &[u8; 32], nodes: &[u32], free_nodes: &[u32]) -> Called
-    ensures { λ r. ⌜ ((heads : List ℕ) → _≡_ {A = Told × Words}
-        (r .answer, wordsOf (r .totals) heads (now («used_bins» .entry)) (now (nodes .entry)) (now («free_nodes» .entry)))
-        (made inPlace Report (wordsOf t heads (now («used_bins» .entry)) (now (nodes .entry)) (now («free_nodes» .entry))))) ⌝ }
+fn report(
+    t: Totals,
+    bin_indices: &[u32; 256],
+    used_bins: &[u8; 32],
+    nodes: &[u32],
+    free_nodes: &[u32],
+) -> Called
+    ensures { λ r. ⌜ _≡_ {A = Told × Words}
+        (r .answer, wordsOf (r .totals) (now («bin_indices» .entry)) (now («used_bins» .entry)) (now (nodes .entry)) (now («free_nodes» .entry)))
+        (made inPlace Report
+        (wordsOf t (now («bin_indices» .entry)) (now («used_bins» .entry)) (now (nodes .entry)) (now («free_nodes» .entry)))) ⌝ }
 {
-    let given = asking::storage_report(t, used_bins, nodes, free_nodes);
+    let given = asking::storage_report(t, bin_indices, used_bins, nodes, free_nodes);
     Called {
         answer: told::of_report(given),
         totals: t,
@@ -139,27 +161,36 @@ fn report(t: Totals, used_bins: &[u8; 32], nodes: &[u32], free_nodes: &[u32]) ->
 fn class_of(
     t: Totals,
     bin_indices: &[u32; 256],
+    used_bins: &[u8; 32],
     nodes: &[u32],
     free_nodes: &[u32],
     class: u32,
 ) -> Called
-    ensures { λ r. ⌜ ((leaves : List ℕ) → _≡_ {A = Told × Words}
-        (r .answer, wordsOf (r .totals) (now («bin_indices» .entry)) leaves (now (nodes .entry)) (now («free_nodes» .entry)))
-        (made inPlace (ClassOf class) (wordsOf t (now («bin_indices» .entry)) leaves (now (nodes .entry)) (now («free_nodes» .entry))))) ⌝ }
+    ensures { λ r. ⌜ _≡_ {A = Told × Words}
+        (r .answer, wordsOf (r .totals) (now («bin_indices» .entry)) (now («used_bins» .entry)) (now (nodes .entry)) (now («free_nodes» .entry)))
+        (made inPlace (ClassOf class)
+        (wordsOf t (now («bin_indices» .entry)) (now («used_bins» .entry)) (now (nodes .entry)) (now («free_nodes» .entry)))) ⌝ }
 {
-    let full = asking::storage_report_full(t, bin_indices, nodes, free_nodes);
+    let full = asking::storage_report_full(t, bin_indices, used_bins, nodes, free_nodes);
     Called {
         answer: told::of_class(full, class),
         totals: t,
     }
 }
 
-fn classes_held(t: Totals, bin_indices: &[u32; 256], nodes: &[u32], free_nodes: &[u32]) -> Called
-    ensures { λ r. ⌜ ((leaves : List ℕ) → _≡_ {A = Told × Words}
-        (r .answer, wordsOf (r .totals) (now («bin_indices» .entry)) leaves (now (nodes .entry)) (now («free_nodes» .entry)))
-        (made inPlace ClassesHeld (wordsOf t (now («bin_indices» .entry)) leaves (now (nodes .entry)) (now («free_nodes» .entry))))) ⌝ }
+fn classes_held(
+    t: Totals,
+    bin_indices: &[u32; 256],
+    used_bins: &[u8; 32],
+    nodes: &[u32],
+    free_nodes: &[u32],
+) -> Called
+    ensures { λ r. ⌜ _≡_ {A = Told × Words}
+        (r .answer, wordsOf (r .totals) (now («bin_indices» .entry)) (now («used_bins» .entry)) (now (nodes .entry)) (now («free_nodes» .entry)))
+        (made inPlace ClassesHeld
+        (wordsOf t (now («bin_indices» .entry)) (now («used_bins» .entry)) (now (nodes .entry)) (now («free_nodes» .entry)))) ⌝ }
 {
-    let full = asking::storage_report_full(t, bin_indices, nodes, free_nodes);
+    let full = asking::storage_report_full(t, bin_indices, used_bins, nodes, free_nodes);
     Called {
         answer: told::of_classes(full),
         totals: t,
@@ -188,10 +219,10 @@ pub fn make(
         Call::HandBack(number) => {
             hand_back(t, bin_indices, used_bins, nodes, free_nodes, number)
         }
-        Call::SizeOf(number) => size_of(t, nodes, free_nodes, number),
-        Call::Report => report(t, used_bins, nodes, free_nodes),
-        Call::ClassOf(class) => class_of(t, bin_indices, nodes, free_nodes, class),
-        Call::ClassesHeld => classes_held(t, bin_indices, nodes, free_nodes),
+        Call::SizeOf(number) => size_of(t, bin_indices, used_bins, nodes, free_nodes, number),
+        Call::Report => report(t, bin_indices, used_bins, nodes, free_nodes),
+        Call::ClassOf(class) => class_of(t, bin_indices, used_bins, nodes, free_nodes, class),
+        Call::ClassesHeld => classes_held(t, bin_indices, used_bins, nodes, free_nodes),
         Call::Nothing => Called {
             answer: Answer::Nothing,
             totals: t,

@@ -7,31 +7,36 @@ use native.Mathlib.Omega.{arith}
 use lib.ListN.{length}
 use Rattle.basics.proofs.Clash.{clash}
 use Rattle.ledger.specs.Ledger.{Ledger, Answer, done, refused, setup, by-class, Stacks}
-use Rattle.ledger.specs.Calls.{Event, event, answer, end, log}
+use Rattle.ledger.specs.Calls.{Event, event, answer, end, log, Reset}
 use Rattle.ledger.specs.Stretch.{Stretch}
 use Rattle.ledger.specs.WellFormed.{WellFormed}
 use Rattle.ledger.specs.Claims.{Claims}
 use Rattle.ledger.proofs.Claims as ledger
 use Rattle.ledger.proofs.Records.{all-records}
+use Rattle.ledger.proofs.CallsWell.{setup-well, end-well}
+use Rattle.ledger.proofs.ByClass.{class-laws}
 use Rattle.tables.specs.Words.{Words, Edition}
-use Rattle.tables.specs.Setup.{setupWords}
+use Rattle.tables.specs.Room.{OfHead}
+use Rattle.tables.specs.Calls.{edition32, answerWords}
+use Rattle.tables.specs.Setup.{setupWords, Lent}
 use Rattle.tables.specs.Sound.{Sound}
 use Rattle.tables.specs.Claims.{OneOf}
-use Rattle.tables.specs.Promise.{SetupPromise}
+use Rattle.tables.specs.Promise.{SetupPromise, Promise}
+use Rattle.tables.proofs.Gate.{Gated, bad-count, too-short, open-gate, gated?}
 use Rattle.tables.proofs.Claims as tables
 use Rattle.tables.proofs.Runs.{step-sound}
-use Rattle.tables.proofs.Promise.{setup-promise}
+use Rattle.tables.proofs.Given.{count-rows}
 use Rattle.auditing.specs.Promise.{AuditPromise}
 use Rattle.auditing.proofs.Claims as auditing
 use Rattle.demands.specs.Runs.{Done, did, Auditing, Step, called, audited, set-up, Run, nothing, then, NoSetup, askedOf, answersOf, callsOf, logOf}
-use Rattle.demands.specs.Demands.{Since, SinceMeans, Demands, ledgerAfter}
+use Rattle.demands.specs.Demands.{Begun, Since, SinceMeans, Demands, BaseDemands, ledgerAfter}
 use Rattle.demands.proofs.Twins.{Twin, twins, run-lengths}
 
 module _ (E : Edition) where
   -- ---- a run without a setup, from words that stand for a ledger: its log is the ledger's, and its end stands for the ledger's end
   run-sound : {size count : ℕ} → 2 ≤ count → size < 2 ^ 32 → (l : Ledger Stacks) → WellFormed by-class size count l → {w u : Words} {ds : List Done}
       → Sound E w l → Run E w ds u → NoSetup ds
-      → (logOf ds ≡ log by-class size count (callsOf ds) l) × Sound E u (end by-class size count (callsOf ds) l)
+      → (logOf ds ≡ log (answer by-class size count) (callsOf ds) l) × Sound E u (end (answer by-class size count) (callsOf ds) l)
   unfolding logOf callsOf log end
   run-sound two small l f S nothing n = (refl, S)
   run-sound {size} {count} two small l f S (then (called {w = w} {v = v} {c = c} {a = a} p) rest) n =
@@ -45,21 +50,29 @@ module _ (E : Edition) where
   run-sound two small l f S (then (audited e p) rest) n = run-sound two small l f S rest n
   run-sound two small l f S (then (set-up t p) rest) n = absurd n
 
-  -- ---- from an accepted setup
-  module _ {size count : ℕ} {at-setup now : Words} {ds : List Done} (s : Since E size count at-setup ds now) where
+  -- ---- from a beginning
+  module _ {size count : ℕ} {l : Ledger Stacks} {at-first now : Words} {ds : List Done} (s : Since E size count l at-first ds now) where
+    -- the words at first have the ledger's size and count
+    size-is : at-first .size ≡ size
+    size-is = sym (s .begun .stands .well .lined .cover) ∙ s .begun .in-order .lined .cover
+
+    count-is : at-first .count ≡ count
+    count-is = sym (all-records (s .begun .stands .well .lined)) ∙ all-records (s .begun .in-order .lined)
+
     two : 2 ≤ count
-    two = tables.claims E .setup-done size count (s .lent) .0 (sym (ap (λ (x : Answer × Words). x .0) (s .accepted .exact))) .count-low
+    two = omega (arith, s .begun .stands .room .tables .count-low, count-is)
+
+    small : size < 2 ^ 32
+    small = omega (arith, s .begun .stands .room .of-head .size-fits, E .fits, size-is)
 
     all-claims : Claims size count
-    all-claims = ledger.claims size count (s .accepted .size-fits) two
+    all-claims = ledger.claims size count small two
 
-    as-the-ledger : (logOf ds ≡ log by-class size count (callsOf ds) (setup by-class size count)) × Sound E now (ledgerAfter size count ds)
-    as-the-ledger =
-        run-sound two (s .accepted .size-fits) (setup by-class size count) (all-claims .shared .setup-well)
-        (s .accepted .ledger refl) (s .run) (s .no-setup)
+    as-the-ledger : (logOf ds ≡ log (answer by-class size count) (callsOf ds) l) × Sound E now (ledgerAfter size count l ds)
+    as-the-ledger = run-sound two small l (s .begun .in-order) (s .begun .stands) (s .run) (s .no-setup)
 
-    well : WellFormed by-class size count (ledgerAfter size count ds)
-    well = all-claims .shared .reached-well (ledgerAfter size count ds) (callsOf ds, refl)
+    well : WellFormed by-class size count (ledgerAfter size count l ds)
+    well = end-well by-class class-laws size count two (callsOf ds) l (s .begun .in-order)
 
     counted : now .count ≡ count
     counted = sym (all-records (as-the-ledger .1 .well .lined)) ∙ all-records (well .lined)
@@ -67,7 +80,7 @@ module _ (E : Edition) where
     audit-says-yes : {n : ℕ} {after : Words} {a : Answer} {later : List Done} → Run E now (did (Auditing n) a ∷ later) after → count ≤ n → a ≡ done
     audit-says-yes (then (audited {scratch = scratch} e p) rest) long =
         ap (λ (x : Answer × List ℕ). x .0)
-        (p .exact ∙ auditing.claims E .sound-yes now (ledgerAfter size count ds) scratch (as-the-ledger .1) (omega (arith, counted, e, long)))
+        (p .exact ∙ auditing.claims E .sound-yes now (ledgerAfter size count l ds) scratch (as-the-ledger .1) (omega (arith, counted, e, long)))
 
     -- the ledger is the same after the stretch, so the words on both sides of it stand for one ledger
     as-never : {after-the-stretch one-end other-end : Words} {stretch later instead : List Done}
@@ -75,13 +88,37 @@ module _ (E : Edition) where
         → Run E after-the-stretch later one-end → Run E now instead other-end → askedOf later ≡ askedOf instead
         → answersOf later ≡ answersOf instead
     as-never {after-the-stretch} {stretch = stretch} run n h after other same =
-        let l = ledgerAfter size count ds in
-        let stretched = run-sound two (s .accepted .size-fits) l well (as-the-ledger .1) run n in
-        let restored = all-claims .shared .stretch-restores (callsOf stretch) l well (subst (Stretch []) (stretched .0) h) in
+        let m = ledgerAfter size count l ds in
+        let stretched = run-sound two small m well (as-the-ledger .1) run n in
+        let restored = all-claims .shared .stretch-restores (callsOf stretch) m well (subst (Stretch []) (stretched .0) h) in
         twins E record {
           lengths = run-lengths E run;
-          kind = inl (l, subst (Sound E after-the-stretch) restored (stretched .1), as-the-ledger .1);
+          kind = inl (m, subst (Sound E after-the-stretch) restored (stretched .1), as-the-ledger .1);
         } after other same
+
+  -- ---- what begins
+  setup-begins : {size count : ℕ} {lent : Lent} {v : Words} → SetupPromise E size count lent v done → Begun E size count (setup by-class size count) v
+  setup-begins {size} {count} {lent} p = record {
+    in-order = setup-well by-class class-laws size count
+        (tables.claims E .setup-done size count lent .0 (sym (ap (λ (x : Answer × Words). x .0) (p .exact))) .1 .count-low);
+    stands = p .ledger refl;
+  }
+
+  reset-begins : {w v : Words} → OfHead E w → Promise E Reset w v done → Begun E (w .size) (w .count) (setup by-class (w .size) (w .count)) v
+  reset-begins {w} {v} h p = go (gated? E 6 (w .count) (length (w .nodes)) (length (w .pile)))
+    where
+      answer-is : done ≡ answerWords E Reset w .0
+      answer-is = ap (λ (x : Answer × Words). x .0) (p .exact)
+
+      go : Gated E 6 (w .count) (length (w .nodes)) (length (w .pile))
+          → Begun E (w .size) (w .count) (setup by-class (w .size) (w .count)) v
+      go (bad-count b e) = clash (cc (answer-is ∙ ap (λ (x : Answer × Words). x .0) (tables.claims E .call-6 Reset w b)))
+      go (too-short b e) = clash (cc (answer-is ∙ ap (λ (x : Answer × Words). x .0) (tables.claims E .call-2 Reset w b)))
+      go (open-gate r e) = record {
+        in-order = setup-well by-class class-laws (w .size) (w .count) (r .count-low);
+        stands = subst (λ (u : Words). Sound E u (setup by-class (w .size) (w .count)))
+            (sym (ap (λ (x : Answer × Words). x .1) (p .exact))) (tables.claims E .reset-sound w (h .size-fits) r .1);
+      }
 
   audit-numbered : {w : Words} {scratch left : List ℕ} {k : ℕ} → AuditPromise E w scratch left (refused k) → OneOf (2 ∷ 6 ∷ []) k
   audit-numbered p = elim (p .no-other) [
@@ -92,12 +129,8 @@ module _ (E : Edition) where
 
 pub since-means : (E : Edition) → SinceMeans E
 since-means E = record {
-  begins = λ size count lent small accepted ds now run n. record {
-    lent = lent;
-    accepted = setup-promise E size count lent small (λ i. (sym accepted i, setupWords E size count lent .1));
-    run = run;
-    no-setup = n;
-  };
+  begins = λ w l S. record { in-order = S .well; stands = S };
+  goes-on = λ size count l w now ds b run n. record { begun = b; run = run; no-setup = n };
 }
 
 pub demands : (E : Edition) → Demands E
@@ -121,9 +154,19 @@ demands E = record {
   then-6 = λ {v = v} {c = c} k s q p.
       let none : v .count ≡ 0 = ap (λ (x : Words). x .count) (s .kept k q) in
       ap (λ (x : Answer × Words). x .0) (p .exact ∙ tables.claims E .call-6 c v (inl (omega (arith, none))));
-  inside = λ {s} {o} {r} p. p .inside s o r refl refl;
+  inside = λ {asked} {o} {r} p. p .inside asked o r refl refl;
+  setup-begins = setup-begins E;
+  reset-begins = reset-begins E;
   as-the-ledger = λ s. as-the-ledger E s;
   well-formed = λ s. (all-claims E s, well E s);
+  reached = λ size count ds. (callsOf ds, refl);
   audit-says-yes = λ s run long. audit-says-yes E s run long;
   as-never = λ s run n h after other same. as-never E s run n h after other same;
+}
+
+pub base-demands : BaseDemands
+base-demands = record {
+  all-of-them = demands edition32;
+  setup-numbered = λ {size} {count} {lent} {v} {k} p.
+      count-rows .setup-32 size count lent k (p .size-fits) (sym (ap (λ (x : Answer × Words). x .0) (p .exact)));
 }

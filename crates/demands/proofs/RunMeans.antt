@@ -9,11 +9,11 @@ use Rattle.ledger.specs.Calls.{Call, Event, event, callOf}
 use Rattle.tables.specs.Words.{Words, Edition}
 use Rattle.tables.specs.Setup.{Lent, lentOf, setupWords}
 use Rattle.tables.specs.Calls.{answerWords}
-use Rattle.tables.proofs.Gate.{Gated, bad-count, too-short, open-gate, gated?}
+use Rattle.tables.proofs.Gate.{SetupCase, count-bad, too-large, table-short, accepted, setup-case}
 use Rattle.tables.proofs.Claims as tables
 use Rattle.tables.proofs.Promise.{promise, setup-promise}
 use Rattle.auditing.specs.Audit.{auditWords}
-use Rattle.auditing.specs.Claims.{OfHead}
+use Rattle.tables.specs.Room.{OfHead}
 use Rattle.auditing.proofs.Promise.{audit-promise}
 use Rattle.demands.specs.Runs.{Asked, Calling, Auditing, SettingUp, Done, did, LentFrom, Step, called, audited, set-up, Run, nothing, then}
 use Rattle.demands.specs.Runs.{NoSetup, askedOf, answersOf, callsOf, logOf, SizesFit, RunMeans}
@@ -24,7 +24,7 @@ lent-by w = lentOf (w .heads) (w .leaves) (w .nodes) (w .pile)
 
 module _ (E : Edition) where
   -- ---- the words that a step leaves are again a head's
-  call-head : (c : Call) (w : Words) → OfHead w → OfHead (answerWords E c w .1)
+  call-head : (c : Call) (w : Words) → OfHead E w → OfHead E (answerWords E c w .1)
   call-head c w h =
       let kept = tables.claims E .not-written c w in
       record {
@@ -33,33 +33,34 @@ module _ (E : Edition) where
         leaves-room = kept .leaves-length (h .leaves-room);
       }
 
-  setup-head : (size count : ℕ) (w : Words) → size < 2 ^ 32 → OfHead w → OfHead (setupWords E size count (lent-by w) .1)
-  setup-head size count w small h = go (gated? E 1 count (length (w .nodes)) (length (w .pile)))
+  setup-head : (size count : ℕ) (w : Words) → OfHead E w → OfHead E (setupWords E size count (lent-by w) .1)
+  setup-head size count w h = go (setup-case E size count (length (w .nodes)) (length (w .pile)))
     where
-      shut : (k : ℕ) → setupWords E size count (lent-by w) .0 ≡ refused k → OfHead (setupWords E size count (lent-by w) .1)
+      shut : (k : ℕ) → setupWords E size count (lent-by w) .0 ≡ refused k → OfHead E (setupWords E size count (lent-by w) .1)
       shut k e =
-          subst OfHead (sym (tables.claims E .setup-refused size count (lent-by w) k e))
+          subst (OfHead E) (sym (tables.claims E .setup-refused size count (lent-by w) k e))
           record { size-fits = omega arith; heads-room = h .heads-room; leaves-room = h .leaves-room }
 
-      go : Gated E 1 count (length (w .nodes)) (length (w .pile)) → OfHead (setupWords E size count (lent-by w) .1)
-      go (bad-count b e) = shut 1 (tables.claims E .setup-1 size count (lent-by w) .1 b)
-      go (too-short b e) = shut 2 (tables.claims E .setup-2 size count (lent-by w) .1 b)
-      go (open-gate b e) =
-          let S = tables.claims E .setup-sound size count (lent-by w) small (tables.claims E .setup-done size count (lent-by w) .1 b) in
-          record { size-fits = S .size-fits; heads-room = S .heads-room; leaves-room = S .leaves-room }
+      go : SetupCase E size count (length (w .nodes)) (length (w .pile)) → OfHead E (setupWords E size count (lent-by w) .1)
+      go (count-bad b e) = shut 1 (tables.claims E .setup-1 size count (lent-by w) .1 b)
+      go (too-large b e) = shut 10 (tables.claims E .setup-10 size count (lent-by w) .1 b)
+      go (table-short f b e) = shut 2 (tables.claims E .setup-2 size count (lent-by w) .1 (f, b))
+      go (accepted f b e) =
+          let S = tables.claims E .setup-sound size count (lent-by w) (tables.claims E .setup-done size count (lent-by w) .1 (f, b)) in
+          S .room .of-head
 
   -- ---- every step there can be
   call-step : (c : Call) (w : Words) → Step E w (Calling c) (answerWords E c w .0) (answerWords E c w .1)
   call-step c w = called (promise E c w refl)
 
-  audit-step : (w : Words) (scratch : List ℕ) → OfHead w → Step E w (Auditing (length scratch)) (auditWords E w scratch .0) w
+  audit-step : (w : Words) (scratch : List ℕ) → OfHead E w → Step E w (Auditing (length scratch)) (auditWords E w scratch .0) w
   audit-step w scratch h = audited refl (audit-promise E w scratch h refl)
 
   setup-step : (size count : ℕ) (w : Words) (lent : Lent) → size < 2 ^ 32 → lent .nodes ≡ w .nodes → lent .pile ≡ w .pile
       → Step E w (SettingUp size count) (setupWords E size count lent .0) (setupWords E size count lent .1)
   setup-step size count w lent small n p = set-up record { nodes-are = n; pile-are = p } (setup-promise E size count lent small refl)
 
-  every-run : (w : Words) → OfHead w → (qs : List Asked) → SizesFit qs
+  every-run : (w : Words) → OfHead E w → (qs : List Asked) → SizesFit qs
       → (ds : List Done) × (u : Words) × Run E w ds u × (askedOf ds ≡ qs)
   unfolding askedOf
   every-run w h [] f = ([], w, nothing, refl)
@@ -79,7 +80,7 @@ module _ (E : Edition) where
         ap (λ (xs : List Asked). Auditing n ∷ xs) (rest .3),
       )
   every-run w h (SettingUp size count ∷ qs) f =
-      let rest = every-run (setupWords E size count (lent-by w) .1) (setup-head size count w (f .0) h) qs (f .1) in (
+      let rest = every-run (setupWords E size count (lent-by w) .1) (setup-head size count w h) qs (f .1) in (
         did (SettingUp size count) (setupWords E size count (lent-by w) .0) ∷ rest .0,
         rest .1,
         then (setup-step size count w (lent-by w) (f .0) refl refl) (rest .2),

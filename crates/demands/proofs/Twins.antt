@@ -15,10 +15,10 @@ use Rattle.tables.specs.Words.{Words, Edition}
 use Rattle.tables.specs.Setup.{Lent, setupWords}
 use Rattle.tables.specs.Calls.{answerWords}
 use Rattle.tables.specs.Sound.{Sound}
-use Rattle.tables.specs.Reach.{Room}
+use Rattle.tables.specs.Room.{Room}
 use Rattle.tables.specs.Claims.{TooShort}
 use Rattle.tables.specs.Promise.{Promise, SetupPromise}
-use Rattle.tables.proofs.Gate.{Gated, bad-count, too-short, open-gate, gated?}
+use Rattle.tables.proofs.Gate.{SetupCase, count-bad, too-large, table-short, accepted, setup-case}
 use Rattle.tables.proofs.SoundOf.{room-of}
 use Rattle.tables.proofs.Claims as tables
 use Rattle.auditing.specs.Promise.{AuditPromise}
@@ -113,7 +113,7 @@ module _ (E : Edition) where
       → SetupPromise E size count lent w′ a → SetupPromise E size count other v′ b
       → (a ≡ b) × (((l : Ledger Stacks) × Sound E w′ l × Sound E v′ l) ⊎ ((w′ .count ≡ 0) × (v′ .count ≡ 0)))
   setup-alike {w} {v} {w′} {v′} {size} {count} {lent} {other} {a} {b} one-length t u p q =
-      go (gated? E 1 count (length (lent .nodes)) (length (lent .pile)))
+      go (setup-case E size count (length (lent .nodes)) (length (lent .pile)))
     where
       nodes-same : length (lent .nodes) ≡ length (other .nodes)
       nodes-same = ap (λ (x : List ℕ). length x) (t .nodes-are) ∙ one-length .nodes-are ∙ sym (ap (λ (x : List ℕ). length x) (u .nodes-are))
@@ -138,15 +138,16 @@ module _ (E : Edition) where
       over P h =
           subst (λ (n : ℕ). P (length (other .nodes)) n) pile-same (subst (λ (n : ℕ). P n (length (lent .pile))) nodes-same h)
 
-      go : Gated E 1 count (length (lent .nodes)) (length (lent .pile))
+      go : SetupCase E size count (length (lent .nodes)) (length (lent .pile))
           → (a ≡ b) × (((l : Ledger Stacks) × Sound E w′ l × Sound E v′ l) ⊎ ((w′ .count ≡ 0) × (v′ .count ≡ 0)))
-      go (bad-count h e) = shut 1 (tables.claims E .setup-1 size count lent .1 h) (tables.claims E .setup-1 size count other .1 h)
-      go (too-short h e) =
-          shut 2 (tables.claims E .setup-2 size count lent .1 h)
-          (tables.claims E .setup-2 size count other .1 (over (TooShort E count) h))
-      go (open-gate h e) =
-          let begun = here ∙ tables.claims E .setup-done size count lent .1 h in
-          let begun-too = there ∙ tables.claims E .setup-done size count other .1 (over (Room E count) h) in
+      go (count-bad h e) = shut 1 (tables.claims E .setup-1 size count lent .1 h) (tables.claims E .setup-1 size count other .1 h)
+      go (too-large h e) = shut 10 (tables.claims E .setup-10 size count lent .1 h) (tables.claims E .setup-10 size count other .1 h)
+      go (table-short f h e) =
+          shut 2 (tables.claims E .setup-2 size count lent .1 (f, h))
+          (tables.claims E .setup-2 size count other .1 (f, over (TooShort E count) h))
+      go (accepted f h e) =
+          let begun = here ∙ tables.claims E .setup-done size count lent .1 (f, h) in
+          let begun-too = there ∙ tables.claims E .setup-done size count other .1 (f, over (Room E count) h) in
           (begun ∙ sym begun-too, inl (setup by-class size count, p .ledger begun, q .ledger begun-too))
 
   -- ---- a step, and a run

@@ -5,38 +5,46 @@ use mathlib.Core.Path.{_≡_}
 use mathlib.Core.List.{List, [], _∷_}
 use Prim.Native.Nat.{ℕ, _+_, _^_, _≤_, _<_}
 use Rattle.ledger.specs.Ledger.{Ledger, Answer, granted, done, refused, setup, by-class, Stacks}
-use Rattle.ledger.specs.Calls.{Call, Take, end, log}
+use Rattle.ledger.specs.Calls.{Request, Call, Take, end, log, answer, Reset}
 use Rattle.ledger.specs.WellFormed.{WellFormed}
-use Rattle.ledger.specs.Claims.{Claims}
+use Rattle.ledger.specs.Claims.{Claims, Reached}
 use Rattle.ledger.specs.Stretch.{Stretch}
 use Rattle.tables.specs.Words.{Words, Edition}
+use Rattle.tables.specs.Room.{OfHead}
 use Rattle.tables.specs.Setup.{Lent, setupWords}
+use Rattle.tables.specs.Calls.{edition32}
 use Rattle.tables.specs.Sound.{Sound}
 use Rattle.tables.specs.Claims.{OneOf, mayGive}
 use Rattle.tables.specs.Promise.{Promise, SetupPromise}
 use Rattle.auditing.specs.Promise.{AuditPromise}
 use Rattle.demands.specs.Runs.{Done, did, Calling, Auditing, Run, NoSetup, askedOf, answersOf, callsOf, logOf}
 
--- document 01's ledger after the calls of a run
-abbrev pub ledgerAfter : (size count : ℕ) → List Done → Ledger Stacks
-ledgerAfter size count ds = end by-class size count (callsOf ds) (setup by-class size count)
+-- document 01's ledger after the calls of a run that begins with l
+abbrev pub ledgerAfter : (size count : ℕ) → Ledger Stacks → List Done → Ledger Stacks
+ledgerAfter size count l ds = end (answer by-class size count) (callsOf ds) l
 
--- "From an accepted setup to the next setup": the words at the setup, what was done since, and the words that it led to
-pub record Since (E : Edition) (size count : ℕ) (at-setup : Words) (ds : List Done) (now : Words) : Type 0 where
-  pub lent : Lent
-  pub accepted : SetupPromise E size count lent at-setup done
-  pub run : Run E at-setup ds now
+-- a beginning: words that stand for a ledger in order, of a store of this size and count. `Demands` says which calls begin one
+pub record Begun (E : Edition) (size count : ℕ) (l : Ledger Stacks) (w : Words) : Type 0 where
+  pub in-order : WellFormed by-class size count l
+  pub stands : Sound E w l
+
+-- what was done since a beginning, "to the next setup": the words at first, and those that it led to
+pub record Since (E : Edition) (size count : ℕ) (l : Ledger Stacks) (at-first : Words) (ds : List Done) (now : Words) : Type 0 where
+  pub begun : Begun E size count l at-first
+  pub run : Run E at-first ds now
   pub no-setup : NoSetup ds
 
--- the same, from the other side: every accepted setup begins one, whatever it was lent, and every run from it without a setup is one
+-- the same, from the other side: a beginning asks no more than that the words stand for the ledger, and every run from it without a setup is one
 pub record SinceMeans (E : Edition) : Type 0 where
-  pub begins : (size count : ℕ) (lent : Lent) → size < 2 ^ 32 → setupWords E size count lent .0 ≡ done → (ds : List Done) (now : Words)
-      → Run E (setupWords E size count lent .1) ds now → NoSetup ds → Since E size count (setupWords E size count lent .1) ds now
+  pub begins : (w : Words) (l : Ledger Stacks) → Sound E w l → Begun E (w .size) (w .count) l w
+  pub goes-on : (size count : ℕ) (l : Ledger Stacks) (w now : Words) (ds : List Done) → Begun E size count l w → Run E w ds now → NoSetup ds
+      → Since E size count l w ds now
 
 pub record Demands (E : Edition) : Type 0 where
   -- ---- 1. "each call ends with an answer or a numbered refusal": a refusal's number is one of those that document 01 gives for the call
   pub call-numbered : {c : Call} {w v : Words} {k : ℕ} → Promise E c w v (refused k) → OneOf (mayGive c) k
-  pub setup-numbered : {size count : ℕ} {lent : Lent} {v : Words} {k : ℕ} → SetupPromise E size count lent v (refused k) → OneOf (1 ∷ 2 ∷ []) k
+  pub setup-numbered : {size count : ℕ} {lent : Lent} {v : Words} {k : ℕ} → SetupPromise E size count lent v (refused k)
+      → OneOf (1 ∷ 10 ∷ 2 ∷ []) k
   pub audit-numbered : {w : Words} {scratch left : List ℕ} {k : ℕ} → AuditPromise E w scratch left (refused k) → OneOf (2 ∷ 6 ∷ []) k
   -- "A refusal changes no word but the audit's scratch." The audit is lent all else to be read only. A setup takes no head: refused, it leaves the two
   -- arrays and the two tables that it was lent as they came, and what it gives beside them are zeros, "whose count of 0 makes later calls give 6"
@@ -48,24 +56,39 @@ pub record Demands (E : Edition) : Type 0 where
   pub then-6 : {size count : ℕ} {lent : Lent} {v u : Words} {c : Call} {a b : Answer} (k : ℕ) → SetupPromise E size count lent v a → a ≡ refused k
       → Promise E c v u b → b ≡ refused 6
   -- "Even from spoiled tables no span outside the store is granted."
-  pub inside : {s o r : ℕ} {w v : Words} → Promise E (Take s) w v (granted o r) → o + s ≤ w .size
-  -- ---- 2. "answers and reports .. are proved equal to document 01's plain ledger", and the tables go on standing for it
-  pub as-the-ledger : {size count : ℕ} {at-setup now : Words} {ds : List Done} → Since E size count at-setup ds now
-      → (logOf ds ≡ log by-class size count (callsOf ds) (setup by-class size count)) × Sound E now (ledgerAfter size count ds)
+  pub inside : {asked : Request} {o r : ℕ} {w v : Words} → Promise E (Take asked) w v (granted o r) → o + asked .size ≤ w .size
+  -- ---- 2. "From an accepted setup": it begins with document 01's setup; so does an accepted reset, whatever the words of the head held before
+  pub setup-begins : {size count : ℕ} {lent : Lent} {v : Words} → SetupPromise E size count lent v done
+      → Begun E size count (setup by-class size count) v
+  pub reset-begins : {w v : Words} → OfHead E w → Promise E Reset w v done → Begun E (w .size) (w .count) (setup by-class (w .size) (w .count)) v
+  -- "answers and reports .. are proved equal to document 01's plain ledger", and the tables go on standing for it
+  pub as-the-ledger : {size count : ℕ} {l : Ledger Stacks} {at-first now : Words} {ds : List Done} → Since E size count l at-first ds now
+      → (logOf ds ≡ log (answer by-class size count) (callsOf ds) l) × Sound E now (ledgerAfter size count l ds)
   -- "Live and free regions cover the store ..": all that is claimed of ledgers (ledger/specs/Claims.antt: inside, disjoint, filled, separated,
-  -- refused-exactly and the rest) holds of that ledger, for it is well formed
-  pub well-formed : {size count : ℕ} {at-setup now : Words} {ds : List Done} → Since E size count at-setup ds now
-      → Claims size count × WellFormed by-class size count (ledgerAfter size count ds)
+  -- refused-exactly and the rest) holds of that ledger, for it is well formed; and what is claimed of ledgers that are reached (live-at-most,
+  -- history-sum and their fellows) after a setup or a reset
+  pub well-formed : {size count : ℕ} {l : Ledger Stacks} {at-first now : Words} {ds : List Done} → Since E size count l at-first ds now
+      → Claims size count × WellFormed by-class size count (ledgerAfter size count l ds)
+  pub reached : (size count : ℕ) (ds : List Done) → Reached by-class size count (ledgerAfter size count (setup by-class size count) ds)
   -- and the audit, wherever it stands in such a run, says yes, if its scratch is long enough
-  pub audit-says-yes : {size count n : ℕ} {at-setup now end : Words} {a : Answer} {ds later : List Done} → Since E size count at-setup ds now
+  pub audit-says-yes : {size count n : ℕ} {l : Ledger Stacks} {at-first now end : Words} {a : Answer} {ds later : List Done}
+      → Since E size count l at-first ds now
       → Run E now (did (Auditing n) a ∷ later) end → count ≤ n → a ≡ done
   -- ---- 3. "Pick any moment in such a run and let a stretch of calls follow in which every span granted is handed back, last granted first, and no older
   -- span is handed back. Refused calls, reports and other questions may stand anywhere in it, a setup or accepted reset may not, and nobody else writes
   -- the tables. Then every later call, handle numbers and reports included, answers as though the stretch had never been."
   -- `later` is asked after the stretch, and `instead`, the same, at the moment, without the stretch. Audits may stand in the stretch, and audits and
   -- setups, refused and accepted, among what comes later: they are compared too, and so is all that follows them
-  pub as-never : {size count : ℕ} {at-setup at-the-moment after-the-stretch one-end other-end : Words} {before stretch later instead : List Done}
-      → Since E size count at-setup before at-the-moment
+  pub as-never : {size count : ℕ} {l : Ledger Stacks} {at-first at-the-moment after-the-stretch one-end other-end : Words}
+      {before stretch later instead : List Done}
+      → Since E size count l at-first before at-the-moment
       → Run E at-the-moment stretch after-the-stretch → NoSetup stretch → Stretch [] (logOf stretch)
       → Run E after-the-stretch later one-end → Run E at-the-moment instead other-end → askedOf later ≡ askedOf instead
       → answersOf later ≡ answersOf instead
+
+-- ---- in the base's edition
+pub record BaseDemands : Type 0 where
+  pub all-of-them : Demands edition32
+  -- every 32-bit size is one of it, so that setup gives 1 and 2 alone
+  pub setup-numbered : {size count : ℕ} {lent : Lent} {v : Words} {k : ℕ} → SetupPromise edition32 size count lent v (refused k)
+      → OneOf (1 ∷ 2 ∷ []) k

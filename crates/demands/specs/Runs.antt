@@ -11,7 +11,7 @@ use Rattle.tables.specs.Setup.{Lent, setupWords}
 use Rattle.tables.specs.Calls.{answerWords}
 use Rattle.tables.specs.Promise.{Promise, SetupPromise}
 use Rattle.auditing.specs.Audit.{auditWords}
-use Rattle.auditing.specs.Claims.{OfHead}
+use Rattle.tables.specs.Room.{OfHead}
 use Rattle.auditing.specs.Promise.{AuditPromise}
 
 -- ---- what can be asked: a call, an audit with a scratch of so many words, a setup
@@ -82,11 +82,11 @@ SizesFit (SettingUp size count ∷ qs) = (size < 2 ^ 32) × SizesFit qs
 
 pub record RunMeans (E : Edition) : Type 0 where
   -- nothing is left out: from any words of a head, everything in qs can be asked, and is answered
-  pub every-run : (w : Words) → OfHead w → (qs : List Asked) → SizesFit qs
+  pub every-run : (w : Words) → OfHead E w → (qs : List Asked) → SizesFit qs
       → (ds : List Done) × (u : Words) × Run E w ds u × (askedOf ds ≡ qs)
   -- nor is any step: an audit with whatever its scratch held, a setup with whatever arrays it is lent beside the tables of w
   pub call-step : (c : Call) (w : Words) → Step E w (Calling c) (answerWords E c w .0) (answerWords E c w .1)
-  pub audit-step : (w : Words) (scratch : List ℕ) → OfHead w → Step E w (Auditing (length scratch)) (auditWords E w scratch .0) w
+  pub audit-step : (w : Words) (scratch : List ℕ) → OfHead E w → Step E w (Auditing (length scratch)) (auditWords E w scratch .0) w
   pub setup-step : (size count : ℕ) (w : Words) (lent : Lent) → size < 2 ^ 32 → lent .nodes ≡ w .nodes → lent .pile ≡ w .pile
       → Step E w (SettingUp size count) (setupWords E size count lent .0) (setupWords E size count lent .1)
   -- and no step is more than that: each answer is the model's, and so is what the next step finds

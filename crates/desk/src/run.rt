@@ -1,14 +1,14 @@
 // Document 01's run to follow: each call with its answer, the report after it and a strip of the store.
 use crate::strip;
 use crate::text;
+use answers::BackAnswer;
 use answers::Handle;
 use answers::Refusal;
-use asking::ReportAnswer;
-use giving::BackAnswer;
+use answers::ReportAnswer;
+use answers::StartAnswer;
+use answers::TakeAnswer;
 use offset_allocator::head::Head;
 use small_float::Size;
-use starting::StartAnswer;
-use taking::TakeAnswer;
 
 const SIZE: u32 = 100;
 

@@ -4,12 +4,12 @@ use mathlib.Core.Path.{_≡_, sym, ap, subst, _∙_}
 use mathlib.Core.Bool.{Bool}
 use Prim.Native.Nat.{ℕ}
 use Rattle.ledger.specs.Ledger.{Answer, done, refused}
-use Rattle.ledger.specs.Calls.{HandBack}
+use Rattle.ledger.specs.Calls.{hands-back}
 use Rattle.tables.specs.Words.{Words, bounds}
 use Rattle.tables.specs.Gate.{gateOf}
-use Rattle.tables.specs.HandBack.{BackPlan, stop, merge, planBack, merging, doBack, backWords}
+use Rattle.tables.specs.HandBack.{BackPlan, stop, merge, planBack, merging, doBack}
 use Rattle.tables.specs.Guards.{MergeGuards, BackGuards}
-use Rattle.tables.specs.Calls.{edition32, answerWords}
+use Rattle.tables.specs.Calls.{edition32, behind, answerWords}
 use Rattle.tables.proofs.Gate.{gated-open}
 use Rattle.tables.proofs.Guards.{back-guards}
 use Rattle.giving.specs.declared.plan.Merged.{Merged as Joined}
@@ -26,8 +26,8 @@ module _ (w : Words) (r : ℕ) where
   unfolding doBack
   stopped e = ap (λ (p : BackPlan). doBack edition32 w r p) (sym e)
 
-  pub let-in : {o : Answer × Words} → gateOf edition32 w ≡ 0 → o ≡ handedBack r w → o ≡ answerWords edition32 (HandBack r) w
-  unfolding answerWords backWords
+  pub let-in : {o : Answer × Words} → gateOf edition32 w ≡ 0 → o ≡ handedBack r w → o ≡ answerWords edition32 (hands-back r) w
+  unfolding answerWords behind
   let-in g e = e ∙ sym (gated-open (gateOf edition32 w) w _ g)
 
 -- g is the model's plan, and it goes on

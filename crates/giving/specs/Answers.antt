@@ -1,30 +1,25 @@
 -- A hand-back's answers as the ledger's, and its plan as the model's. Assumes nothing.
+use mathlib.Core.Bool.{cond}
 use mathlib.Core.Path.{_≡_}
 use mathlib.Core.List.{List}
 use Prim.Native.Nat.{ℕ, _+_}
 use Rattle.ledger.specs.Ledger.{Answer, done, refused}
-use Rattle.tables.specs.Layout.{pick, dataOffset, dataSize, word}
+use Rattle.tables.specs.Layout.{dataOffset, dataSize, word}
 use Rattle.tables.specs.Words.{Words}
 use Rattle.tables.specs.HandBack.{BackPlan, stop, merge, Merged, isFree, planBack, doBack}
 use Rattle.tables.specs.Calls.{edition32}
 use Rattle.answers.specs.Refusals.{numberOf}
+use Rattle.answers.specs.Answers.{backSays}
 use Rattle.bins.specs.InWords.{wordsOf}
-use Rattle.giving.specs.declared.BackAnswer.{BackAnswer}
-use Rattle.giving.specs.declared.BackAnswer.the-variants.{Done, Refused}
 use Rattle.giving.specs.declared.Returned.{Returned}
 use Rattle.giving.specs.declared.plan.Merged.{Merged as Joined}
 use Rattle.giving.specs.declared.plan.Side.{Side}
 use Rattle.giving.specs.declared.plan.Planned.{Planned}
 use Rattle.giving.specs.declared.plan.Planned.the-variants.{Stop, Merge}
 
--- document 01's number for each answer
-abbrev pub answerOf : BackAnswer → Answer
-answerOf Done = done
-answerOf (Refused why) = refused (numberOf why)
-
 -- the answer, and all the words that the call leaves
 abbrev pub outcomeOf : Returned → (heads leaves nodes pile : List ℕ) → Answer × Words
-outcomeOf a heads leaves nodes pile = (answerOf (a .answer), wordsOf (a .totals) heads leaves nodes pile)
+outcomeOf a heads leaves nodes pile = (backSays (a .answer), wordsOf (a .totals) heads leaves nodes pile)
 
 -- what the model does behind the gate
 abbrev pub handedBack : ℕ → Words → Answer × Words
@@ -47,9 +42,9 @@ UnderRecord r (Merge p x p-free x-free m) = m .record ≡ r
 pub record Beside (nodes : List ℕ) (count link outward offset : ℕ) (s : Side) : Type 0 where
   pub link-is : s .link ≡ link
   pub free-is : s .free ≡ isFree nodes count link
-  pub length-is : s .length ≡ pick (isFree nodes count link) (word nodes dataSize link) 0
-  pub offset-is : s .offset ≡ pick (isFree nodes count link) (word nodes dataOffset link) offset
-  pub beyond-is : s .beyond ≡ pick (isFree nodes count link) (word nodes outward link) link
+  pub length-is : s .length ≡ cond (isFree nodes count link) (word nodes dataSize link) 0
+  pub offset-is : s .offset ≡ cond (isFree nodes count link) (word nodes dataOffset link) offset
+  pub beyond-is : s .beyond ≡ cond (isFree nodes count link) (word nodes outward link) link
 
 -- a region of length own, joined with what lies beside it
 abbrev pub joined : (total own : ℕ) → (before after : Side) → Merged

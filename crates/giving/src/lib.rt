@@ -9,8 +9,11 @@ ghost use Rattle.tables.specs.Calls.{edition32};
 ghost use Rattle.tables.specs.HandBack.{merging};
 ghost use Rattle.tables.specs.Guards.{MergeGuards};
 ghost use Rattle.tables.specs.Promise.{Promise};
+ghost use Rattle.answers.specs.Asked.{tokenOf};
 ghost use Rattle.bins.specs.InWords.{wordsOf, bound, HasRoom};
-ghost use Rattle.giving.specs.Answers.{answerOf, outcomeOf, handedBack, mergedIn};
+ghost use Rattle.answers.specs.Answers.{backSays};
+ghost use Rattle.giving.specs.Answers.{outcomeOf, handedBack, mergedIn};
+use answers::BackAnswer;
 use answers::Handle;
 use answers::Refusal;
 use bins::gate::Gate;
@@ -20,11 +23,6 @@ use plan::Planned;
 
 mod commit;
 mod plan;
-
-pub enum BackAnswer {
-    Done,
-    Refused(Refusal),
-}
 
 pub struct Returned {
     pub answer: BackAnswer,
@@ -47,7 +45,7 @@ fn carry_out(
     requires { ⌜ HasRoom (t .«max_allocs») (now nodes) ⌝ }
     requires { ⌜ t .«max_allocs» ≤ length (now «free_nodes») ⌝ }
     requires { ⌜ MergeGuards (wordsOf t [] [] (now nodes) []) (m .record) prev next «prev_free» «next_free» (mergedIn m) ⌝ }
-    ensures { λ a. ⌜ answerOf (a .answer) ≡ done ⌝ }
+    ensures { λ a. ⌜ backSays (a .answer) ≡ done ⌝ }
     ensures { λ a. ⌜ wordsOf (a .totals) (now («bin_indices» .exit)) (now («used_bins» .exit)) (now (nodes .exit)) (now («free_nodes» .exit))
         ≡ merging (bound (t .«max_allocs»))
         (wordsOf t (now («bin_indices» .entry)) (now («used_bins» .entry)) (now (nodes .entry)) (now («free_nodes» .entry)))
@@ -108,16 +106,16 @@ fn give_back(
 // A span goes back, or why not. It merges with the free regions beside it and keeps its record.
 pub fn free(
     t: Totals,
+    handle: Handle,
     bin_indices: &mut [u32; 256],
     used_bins: &mut [u8; 32],
     nodes: &mut [u32],
     free_nodes: &mut [u32],
-    handle: Handle,
 ) -> Returned
-    ensures { λ a. ⌜ Promise edition32 (HandBack (handle .0))
+    ensures { λ a. ⌜ Promise edition32 (HandBack (tokenOf handle))
         (wordsOf t (now («bin_indices» .entry)) (now («used_bins» .entry)) (now (nodes .entry)) (now («free_nodes» .entry)))
         (wordsOf (a .totals) (now («bin_indices» .exit)) (now («used_bins» .exit)) (now (nodes .exit)) (now («free_nodes» .exit)))
-        (answerOf (a .answer)) ⌝ }
+        (backSays (a .answer)) ⌝ }
 {
     match bins::gate::test(t.max_allocs, nodes, free_nodes, Refusal::Unsound) {
         Gate::Shut(why) => Returned {

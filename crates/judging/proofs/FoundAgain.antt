@@ -1,7 +1,7 @@
 -- Two answers with the same numbers are the same: an answer is found again from its numbers. Assumes nothing.
+use mathlib.Core.Bool.{cond}
 use mathlib.Core.Path.{_≡_, refl, sym, ap, _∙_}
 use lib.Dec.{eqb}
-use Rattle.tables.specs.Layout.{pick}
 use Rattle.judging.specs.declared.answer.Answer.{Answer}
 use Rattle.judging.specs.declared.answer.Answer.the-variants.{Done, Granted, Length, Free, Regions, Held, Refused, Nothing}
 use Rattle.judging.specs.declared.numbers.Figures.{Figures}
@@ -9,13 +9,13 @@ use Rattle.judging.specs.Judged.{inNumbers}
 
 abbrev fromNumbers : Figures → Answer
 fromNumbers f =
-    pick (eqb (f .kind) 0) Done
-    (pick (eqb (f .kind) 1) (Granted (f .first) (f .second))
-    (pick (eqb (f .kind) 2) (Length (f .first))
-    (pick (eqb (f .kind) 3) (Free (f .first) (f .second))
-    (pick (eqb (f .kind) 4) (Regions (f .first) (f .second))
-    (pick (eqb (f .kind) 5) (Held (f .first))
-    (pick (eqb (f .kind) 6) (Refused (f .first)) Nothing))))))
+    cond (eqb (f .kind) 0) Done
+    (cond (eqb (f .kind) 1) (Granted (f .first) (f .second))
+    (cond (eqb (f .kind) 2) (Length (f .first))
+    (cond (eqb (f .kind) 3) (Free (f .first) (f .second))
+    (cond (eqb (f .kind) 4) (Regions (f .first) (f .second))
+    (cond (eqb (f .kind) 5) (Held (f .first))
+    (cond (eqb (f .kind) 6) (Refused (f .first)) Nothing))))))
 
 found-again : (a : Answer) → fromNumbers (inNumbers a) ≡ a
 found-again Done = refl

@@ -1,20 +1,19 @@
 -- What is held against an audit, whose scratch held 7 in each of its 16 words. Assumes nothing.
 use mathlib.Core.Path.{_≡_}
-use mathlib.Core.Bool.{Bool, true, false}
+use mathlib.Core.Bool.{Bool, true, false, cond}
 use mathlib.Core.List.{List}
 use Prim.Native.Nat.{ℕ, _<_}
 use lib.Dec.{ltb}
 use lib.ListN.{getD}
-use Rattle.tables.specs.Layout.{pick}
 use Rattle.judging.specs.declared.store.Store.{Store}
 
 -- how many words of its scratch an audit clears: as many as the count, if that is at least 2 and the tables have room for it
 abbrev pub clearedBy : ℕ → ℕ
-clearedBy count = pick (ltb count 2) 0 (pick (ltb 16 count) 0 count)
+clearedBy count = cond (ltb count 2) 0 (cond (ltb 16 count) 0 count)
 
 -- word i afterwards
 abbrev pub leftAt : (cleared i : ℕ) → ℕ
-leftAt cleared i = pick (ltb i cleared) 0 7
+leftAt cleared i = cond (ltb i cleared) 0 7
 
 abbrev pub ScratchLeft : (cleared : ℕ) → List ℕ → Type 0
 ScratchLeft cleared scratch = (i : ℕ) → i < 16 → getD scratch i 0 ≡ leftAt cleared i

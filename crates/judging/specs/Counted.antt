@@ -1,9 +1,8 @@
 -- How calls are counted, and what a counter of 0 says. Assumes nothing.
 use mathlib.Core.Path.{_≡_}
-use mathlib.Core.Bool.{Bool, false}
+use mathlib.Core.Bool.{Bool, false, cond}
 use Prim.Native.Nat.{ℕ, _+_, _*_, _%_, _<_}
 use lib.ListN.{getD, set, replicate}
-use Rattle.tables.specs.Layout.{pick}
 use Rattle.replay.specs.Tally.{oneMore}
 use Rattle.judging.specs.declared.tally.Tally.{Tally}
 
@@ -13,7 +12,7 @@ cell line column = line % 8 * 9 + column % 9
 
 -- a counter, raised or left
 abbrev pub oneMoreIf : Bool → ℕ → ℕ
-oneMoreIf raised n = pick raised (oneMore n) n
+oneMoreIf raised n = cond raised (oneMore n) n
 
 abbrev pub nothingCounted : Tally
 nothingCounted = record { counts = replicate 72 0; changed = 0; outside = 0; differ = 0 }

@@ -1,10 +1,9 @@
 -- What is held against each call: which calls must leave every word, and what those words are; that a grant lies in the store. Assumes nothing.
 use mathlib.Core.Path.{_≡_}
-use mathlib.Core.Bool.{Bool, true, false}
+use mathlib.Core.Bool.{Bool, true, false, cond}
 use Prim.Native.Nat.{ℕ, _+_}
 use lib.Dec.{ltb}
 use lib.ListN.{replicate}
-use Rattle.tables.specs.Layout.{pick}
 use Rattle.judging.specs.declared.answer.Answer.{Answer}
 use Rattle.judging.specs.declared.answer.Answer.the-variants as answer
 use Rattle.judging.specs.declared.call.Call.{Call}
@@ -46,7 +45,7 @@ isQuestion call.Nothing = true
 
 -- a refused call and a question leave every word
 abbrev pub mustKeep : Call → Answer → Bool
-mustKeep c a = pick (isRefused a) true (isQuestion c)
+mustKeep c a = cond (isRefused a) true (isQuestion c)
 
 abbrev pub isSetUp : Call → Bool
 isSetUp (call.SetUp size count) = true
@@ -80,11 +79,11 @@ noArrays s = record {
 
 -- what a call that must leave every word leaves; a setup takes no totals, and where it is refused gives totals of zeros
 abbrev pub leftBy : Call → Store → Store
-leftBy c s = pick (isSetUp c) (noTotals s) s
+leftBy c s = cond (isSetUp c) (noTotals s) s
 
 -- what a call by value is lent: the arrays of a setup are then its own, and begin as zeros
 abbrev pub lentByValue : Call → Store → Store
-lentByValue c s = pick (isSetUp c) (noArrays s) s
+lentByValue c s = cond (isSetUp c) (noArrays s) s
 
 -- every word is left that must be: `changed` is the judgement
 pub record Kept (c : Call) (a : Answer) (before after : Store) (changed : Bool) : Type 0 where

@@ -4,7 +4,7 @@ use Rattle.ledger.specs.Laws.{Laws}
 use Prim.Native.Nat.{ℕ, _-_, _≤_}
 use native.Mathlib.Omega.{arith}
 use mathlib.Core.List.{List, [], _∷_}
-use Rattle.ledger.specs.Calls.{answer, end, Call, Take, HandBack, SizeOf, Report, FullReport, Reset}
+use Rattle.ledger.specs.Calls.{answer, end, Call, Take, HandBack, Reset, Ask}
 use Rattle.ledger.specs.WellFormed.{WellFormed}
 use Rattle.ledger.specs.Claims.{Reached}
 use Rattle.ledger.proofs.KeptLine.{cut-lined, merge-lined, setup-lined}
@@ -37,15 +37,13 @@ module _ (E : Engine) (laws : Laws E) where
 
     pub call-well : (c : Call) (l : Ledger (E .Index)) → WellFormed E size count l → WellFormed E size count (answer E size count c l .1)
     unfolding answer
-    call-well (Take s) l w = take-well size count s l w
-    call-well (HandBack r) l w = hand-back-well size count r l w
-    call-well (SizeOf r) l w = w
-    call-well Report l w = w
-    call-well FullReport l w = w
+    call-well (Take asked) l w = take-well size count (asked .size) l w
+    call-well (HandBack span) l w = hand-back-well size count (span .number) l w
     call-well Reset l w = setup-well
+    call-well (Ask q) l w = w
 
-    pub end-well : (cs : List Call) (l : Ledger (E .Index)) → WellFormed E size count l → WellFormed E size count (end E size count cs l)
-    unfolding end
+    pub end-well : (cs : List Call) (l : Ledger (E .Index)) → WellFormed E size count l → WellFormed E size count (end (answer E size count) cs l)
+    unfolding answer end
     end-well [] l w = w
     end-well (c ∷ cs) l w = end-well cs (answer E size count c l .1) (call-well c l w)
 

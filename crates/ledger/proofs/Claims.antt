@@ -8,7 +8,7 @@ use Rattle.ledger.proofs.Spans.{inside, disjoint, filled, separated}
 use Rattle.ledger.proofs.Plain.{pile-distinct, pile-below, line-distinct, spare-has-none, none-lost, stack-holds, stack-distinct}
 use Rattle.ledger.proofs.Grants.{the-grant, grant-alone, grant-lasts, grant-stays-alone}
 use Rattle.ledger.proofs.Returns.{the-return}
-use Rattle.ledger.proofs.Reached.{end-none, end-last, answers-last, log-calls, log-answers, setup-reached, call-reached}
+use Rattle.ledger.proofs.Reached.{setup-reached, call-reached}
 use Rattle.ledger.proofs.Reached.{fresh-line, fresh-spares, fresh-pile, reset-is-fresh}
 use Rattle.ledger.proofs.Refusals.{granted-or-refused, not-both, none-reaches-exactly, live-exactly, size-told}
 use Rattle.ledger.proofs.Refusals.{refused-exactly, refusal-3, refusal-4, refusal-5, size-refusal-5, live-below, no-other, refused-same}
@@ -31,11 +31,6 @@ engine-claims E laws size count small two = record {
   setup-reached = setup-reached E size count;
   call-reached = call-reached E size count;
   reached-well = reached-well E laws size count two;
-  end-none = end-none E size count;
-  end-last = end-last E size count;
-  answers-last = answers-last E size count;
-  log-calls = log-calls E size count;
-  log-answers = log-answers E size count;
   fresh-line = fresh-line E size count;
   fresh-spares = fresh-spares E size count two;
   fresh-pile = fresh-pile E size count;

@@ -9,7 +9,7 @@ use Rattle.basics.proofs.Clash.{clash}
 use Rattle.ledger.specs.Ledger.{Engine, Ledger, Stacks, by-class, Answer, granted, done, length-is, reported, classes, refused}
 use Rattle.ledger.specs.Ledger.{numbersFrom, fullAt, fullOf, take, handBack, sizeOf}
 use Rattle.ledger.specs.Laws.{Laws}
-use Rattle.ledger.specs.Calls.{Call, Take, HandBack, SizeOf, Report, FullReport, Reset, answer}
+use Rattle.ledger.specs.Calls.{SizeOf, Report, FullReport, Call, Take, HandBack, Reset, Ask, answer}
 use Rattle.ledger.specs.Figures.{refusalOf, figureCount, inARow, figuresOf}
 use Rattle.ledger.specs.WellFormed.{WellFormed}
 use Rattle.ledger.specs.Claims.{CanRefuse, too-few-spares, none-reaches, not-live, unknown}
@@ -64,24 +64,24 @@ module _ (size count : ℕ) where
   pub figures-all : (c : Call) (l : Ledger Stacks) → WellFormed by-class size count l
       → length (figuresOf c (answer by-class size count c l .0)) ≡ figureCount c
   unfolding answer fullOf
-  figures-all (Take s) l w = go (take-case by-class class-laws w s)
+  figures-all (Take asked) l w = go (take-case by-class class-laws w (asked .size))
     where
-      go : TakeCase by-class s l → length (figuresOf (Take s) (take by-class s l .0)) ≡ 2
+      go : TakeCase by-class (asked .size) l → length (figuresOf (Take asked) (take by-class (asked .size) l .0)) ≡ 2
       go (few-spares h e) = rw e
       go (no-region h empty e) = rw e
       go (serves t) = rw (t .outcome)
-  figures-all (HandBack r) l w = go (live-case by-class w r)
+  figures-all (HandBack span) l w = go (live-case by-class w (span .number))
     where
-      go : LiveCase by-class r l → length (figuresOf (HandBack r) (handBack by-class r l .0)) ≡ 0
+      go : LiveCase by-class (span .number) l → length (figuresOf (HandBack span) (handBack by-class (span .number) l .0)) ≡ 0
       go (case.not-live h e q) = rw e
       go (is-live n before after b e q) = rw e
-  figures-all (SizeOf r) l w = go (live-case by-class w r)
+  figures-all (Ask (SizeOf span)) l w = go (live-case by-class w (span .number))
     where
-      go : LiveCase by-class r l → length (figuresOf (SizeOf r) (sizeOf r l)) ≡ 1
+      go : LiveCase by-class (span .number) l → length (figuresOf (Ask (SizeOf span)) (sizeOf (span .number) l)) ≡ 1
       go (case.not-live h e q) = rw q
       go (is-live n before after b e q) = rw q
-  figures-all Report l w = refl
-  figures-all FullReport l w = omega (
+  figures-all (Ask Report) l w = refl
+  figures-all (Ask FullReport) l w = omega (
     arith,
     in-a-row (map (fullAt (l .index)) (numbersFrom 0 256)),
     length-map (numbersFrom 0 256) (fullAt (l .index)),

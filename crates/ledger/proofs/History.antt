@@ -12,7 +12,7 @@ use lib.Dec.{eqb}
 use Rattle.basics.specs.Sum.{one, tally}
 use Rattle.basics.proofs.Decided.{Same, same, differ, same?, eqb-same}
 use Rattle.basics.proofs.Sums.{tally-le, tally-append, both-first}
-use Rattle.ledger.specs.Calls.{answer, end, log, Call, Take, HandBack, SizeOf, Report, FullReport, Reset, event}
+use Rattle.ledger.specs.Calls.{answer, end, log, Call, Take, HandBack, Reset, Ask, event}
 use Rattle.ledger.specs.WellFormed.{WellFormed, has}
 use Rattle.ledger.specs.Spans.{At, first, later}
 use Rattle.ledger.specs.History.{Span, strike, note, outAfter, IsOut}
@@ -125,16 +125,22 @@ module _ (E : Engine) (laws : Laws E) where
     pub call-told : (c : Call) (l : Ledger (E .Index)) (out : List Span) → WellFormed E size count l → Told out l
         → Told (note (event c (answer E size count c l .0)) out) (answer E size count c l .1)
     unfolding answer note Told
-    call-told (Take s) l out w told = go (take-case E laws w s)
+    call-told (Take asked) l out w told = go (take-case E laws w s)
       where
-        go : TakeCase E s l → Told (note (event (Take s) (take E s l .0)) out) (take E s l .1)
+        s : ℕ
+        s = asked .size
+
+        go : TakeCase E s l → Told (note (event (Take asked) (take E s l .0)) out) (take E s l .1)
         go (few-spares h e) = rw e told
         go (no-region h empty e) = rw e told
         go (serves t) = rw (t .outcome)
             (λ weight. omega (arith, told weight, cut-adds E (ofRegion weight) (λ m q. refl) s (t .n - s) l (t .place)))
-    call-told (HandBack r) l out w told = go (live-case E w r)
+    call-told (HandBack span) l out w told = go (live-case E w r)
       where
-        go : LiveCase E r l → Told (note (event (HandBack r) (handBack E r l .0)) out) (handBack E r l .1)
+        r : ℕ
+        r = span .number
+
+        go : LiveCase E r l → Told (note (event (HandBack span) (handBack E r l .0)) out) (handBack E r l .1)
         go (not-live h e q) = rw e told
         go (is-live n before after b e q) = rw e
             (λ weight. omega (
@@ -143,10 +149,8 @@ module _ (E : Engine) (laws : Laws E) where
               merge-takes E (ofRegion weight) (λ m q. refl) l b,
               return-told size count n r before after l out w told b weight,
             ))
-    call-told (SizeOf r) l out w told = told
-    call-told Report l out w told = told
-    call-told FullReport l out w told = told
     call-told Reset l out w told = setup-told
+    call-told (Ask q) l out w told = told
 
   -- ---- the sum
   lengths : (line : List Region) → tally (ofRegion (λ n r. n)) line + tally freeLen line ≡ tally len line
@@ -156,42 +160,42 @@ module _ (E : Engine) (laws : Laws E) where
 
   module _ (size count : ℕ) (two : 2 ≤ count) where
     pub run-told : (cs : List Call) (l : Ledger (E .Index)) (out : List Span) → WellFormed E size count l → Told out l
-        → Told (outAfter (log E size count cs l) out) (end E size count cs l)
-    unfolding end log outAfter
+        → Told (outAfter (log (answer E size count) cs l) out) (end (answer E size count) cs l)
+    unfolding answer end log outAfter
     run-told [] l out w told = told
     run-told (c ∷ cs) l out w told =
         run-told cs (answer E size count c l .1) (note (event c (answer E size count c l .0)) out)
         (call-well E laws size count two c l w) (call-told size count c l out w told)
 
     pub history-sum : (cs : List Call)
-        → tally (λ (x : Span). x .size) (outAfter (log E size count cs (setup E size count)) [])
-        + tally freeLen (end E size count cs (setup E size count) .line) ≡ size
+        → tally (λ (x : Span). x .size) (outAfter (log (answer E size count) cs (setup E size count)) [])
+        + tally freeLen (end (answer E size count) cs (setup E size count) .line) ≡ size
     unfolding Told
     history-sum cs =
         let w = setup-well E laws size count two in
         omega (
           arith,
           run-told cs (setup E size count) [] w (setup-told size count) (λ n r. n),
-          lengths (end E size count cs (setup E size count) .line),
+          lengths (end (answer E size count) cs (setup E size count) .line),
           end-well E laws size count two cs (setup E size count) w .lined .cover,
         )
 
     pub history-live : (cs : List Call) (n r : ℕ)
-        → IsOut n r (outAfter (log E size count cs (setup E size count)) [])
-        ↔ ((o : ℕ) × At (live n r) o (end E size count cs (setup E size count) .line))
+        → IsOut n r (outAfter (log (answer E size count) cs (setup E size count)) [])
+        ↔ ((o : ℕ) × At (live n r) o (end (answer E size count) cs (setup E size count) .line))
     unfolding Told
     history-live cs n r = (
-      λ t. region-there n r (end E size count cs (setup E size count) .line)
-          (omega (arith, alike-told, span-counts n r (outAfter (log E size count cs (setup E size count)) []) t)),
-      λ x. span-there n r (outAfter (log E size count cs (setup E size count)) [])
+      λ t. region-there n r (end (answer E size count) cs (setup E size count) .line)
+          (omega (arith, alike-told, span-counts n r (outAfter (log (answer E size count) cs (setup E size count)) []) t)),
+      λ x. span-there n r (outAfter (log (answer E size count) cs (setup E size count)) [])
           (omega (arith, alike-told, at-weighs (x .1) (ofRegion (alike n r)), alike-own n r)),
     )
       where
-        alike-told : tally (ofSpan (alike n r)) (outAfter (log E size count cs (setup E size count)) [])
-            ≡ tally (ofRegion (alike n r)) (end E size count cs (setup E size count) .line)
+        alike-told : tally (ofSpan (alike n r)) (outAfter (log (answer E size count) cs (setup E size count)) [])
+            ≡ tally (ofRegion (alike n r)) (end (answer E size count) cs (setup E size count) .line)
         alike-told = run-told cs (setup E size count) [] (setup-well E laws size count two) (setup-told size count) (alike n r)
 
-    pub report-total : (cs : List Call) → 2 ≤ length (end E size count cs (setup E size count) .pile)
-        → tally (λ (x : Span). x .size) (outAfter (log E size count cs (setup E size count)) [])
-        + report E (end E size count cs (setup E size count)) .0 ≡ size
-    report-total cs h = omega (arith, history-sum cs, report-free E laws (end E size count cs (setup E size count)) h)
+    pub report-total : (cs : List Call) → 2 ≤ length (end (answer E size count) cs (setup E size count) .pile)
+        → tally (λ (x : Span). x .size) (outAfter (log (answer E size count) cs (setup E size count)) [])
+        + report E (end (answer E size count) cs (setup E size count)) .0 ≡ size
+    report-total cs h = omega (arith, history-sum cs, report-free E laws (end (answer E size count) cs (setup E size count)) h)

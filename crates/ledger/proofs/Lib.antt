@@ -11,6 +11,7 @@ pub mod KeptIndex
 pub mod LiveSums
 pub mod Cases
 pub mod CallsWell
+pub mod RunsMean
 pub mod Stays
 pub mod LiveAtMost
 pub mod Reached

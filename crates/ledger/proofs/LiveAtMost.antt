@@ -8,7 +8,7 @@ use mathlib.Core.List.{List, [], _∷_}
 use lib.ListN.{length, getD, length-reverseAux}
 use Rattle.basics.specs.Sum.{tally}
 use Rattle.basics.proofs.Sums.{tally-reverseAux, tally-le, tally-length}
-use Rattle.ledger.specs.Calls.{answer, end, Call, Take, HandBack, SizeOf, Report, FullReport, Reset}
+use Rattle.ledger.specs.Calls.{answer, end, Call, Take, HandBack, Reset, Ask}
 use Rattle.ledger.specs.WellFormed.{WellFormed}
 use Rattle.ledger.specs.History.{liveOne}
 use Rattle.ledger.specs.Claims.{Reached}
@@ -47,8 +47,11 @@ module _ (E : Engine) (laws : Laws E) where
     call-at-most : (c : Call) (l : Ledger (E .Index)) → WellFormed E size count l → tally liveOne (l .line) + 2 ≤ count
         → tally liveOne (answer E size count c l .1 .line) + 2 ≤ count
     unfolding answer setup
-    call-at-most (Take s) l w h = go (take-case E laws w s)
+    call-at-most (Take asked) l w h = go (take-case E laws w s)
       where
+        s : ℕ
+        s = asked .size
+
         go : TakeCase E s l → tally liveOne (take E s l .1 .line) + 2 ≤ count
         go (few-spares k e) = rw e h
         go (no-region k empty e) = rw e h
@@ -56,19 +59,20 @@ module _ (E : Engine) (laws : Laws E) where
             rw (t .outcome)
             (cut-at-most size count s (t .n - s) (t .n) (t .r) (t .before) (t .after) l (t .two-spare)
             (rw (t .outcome) at (take-well E laws size count s l w)))
-    call-at-most (HandBack r) l w h = go (live-case E w r)
+    call-at-most (HandBack span) l w h = go (live-case E w r)
       where
+        r : ℕ
+        r = span .number
+
         go : LiveCase E r l → tally liveOne (handBack E r l .1 .line) + 2 ≤ count
         go (not-live k e q) = rw e h
         go (is-live n before after b e q) = rw e (omega (arith, merge-takes E liveOne (λ m p. refl) l b))
-    call-at-most (SizeOf r) l w h = h
-    call-at-most Report l w h = h
-    call-at-most FullReport l w h = h
     call-at-most Reset l w h = omega arith
+    call-at-most (Ask q) l w h = h
 
     calls-at-most : (cs : List Call) (l : Ledger (E .Index)) → WellFormed E size count l → tally liveOne (l .line) + 2 ≤ count
-        → tally liveOne (end E size count cs l .line) + 2 ≤ count
-    unfolding end
+        → tally liveOne (end (answer E size count) cs l .line) + 2 ≤ count
+    unfolding answer end
     calls-at-most [] l w h = h
     calls-at-most (c ∷ cs) l w h =
         calls-at-most cs (answer E size count c l .1) (call-well E laws size count two c l w) (call-at-most c l w h)

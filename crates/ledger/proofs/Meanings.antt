@@ -12,10 +12,10 @@ use Rattle.basics.proofs.Clash.{clash}
 use Rattle.small_float.specs.Class.{down}
 use Rattle.basics.proofs.Decided.{Same, same, differ, same?, Below, below, beyond, below?}
 use Rattle.ledger.specs.Ledger.{Region, live, free, len, Stacks, onTop, numbersFrom, Answer, granted, done, refused}
-use Rattle.ledger.specs.Calls.{Call, Take, HandBack, SizeOf, Report, FullReport, Reset, Event, event}
+use Rattle.ledger.specs.Calls.{Request, Token, Question, SizeOf, Report, FullReport, Call, Take, HandBack, Reset, Ask, takes, hands-back, Event, event}
 use Rattle.ledger.specs.Spans.{At, first, later, FreeIn, Among, Disjoint, Leaves, AllLeave}
 use Rattle.ledger.specs.History.{Span, strike, note, liveOne}
-use Rattle.ledger.specs.Stretch.{Question, size-query, short-report, full-report, Stretch, ended, grants, returns, refuses, asks}
+use Rattle.ledger.specs.Stretch.{Stretch, ended, grants, returns, refuses, asks}
 use Rattle.ledger.specs.Claims.{CanRefuse, too-few-spares, none-reaches, not-live, unknown}
 use Rattle.ledger.specs.Claims.{NoneOrFree, none-there, one-there, Remainder, nothing-left, next-record, OnTop}
 use Rattle.ledger.specs.Meanings.{liveRecords, Inside, Meanings}
@@ -57,24 +57,26 @@ apart-by-address o n p m h k none = go (below? o p)
     ]
 
 -- ---- calls that leave r
-leaves-exactly : (r : ℕ) (c : Call) → Leaves r c ↔ ((c ≢ HandBack r) × (c ≢ Reset))
-leaves-exactly r (Take s) = (λ h. (λ e. clash (cc), λ e. clash (cc)), λ h. tt)
+-- c is neither a hand-back of r nor a reset
+abbrev Spares : ℕ → Call → Type 0
+Spares r c = ((span : Token) → c ≡ HandBack span → span .number ≢ r) × (c ≢ Reset)
+
+leaves-exactly : (r : ℕ) (c : Call) → Leaves r c ↔ Spares r c
+leaves-exactly r (Take asked) = (λ h. (λ span e. clash (cc), λ e. clash (cc)), λ h. tt)
 leaves-exactly r (HandBack q) = (
-  λ h. (λ e. let number : q ≡ r = cc in h number, λ e. clash (cc)),
-  λ h e. h .0 (ap HandBack e),
+  λ h. (λ span e. let it-is : q ≡ span = cc in rw it-is at h, λ e. clash (cc)),
+  λ h. h .0 q refl,
 )
-leaves-exactly r (SizeOf q) = (λ h. (λ e. clash (cc), λ e. clash (cc)), λ h. tt)
-leaves-exactly r Report = (λ h. (λ e. clash (cc), λ e. clash (cc)), λ h. tt)
-leaves-exactly r FullReport = (λ h. (λ e. clash (cc), λ e. clash (cc)), λ h. tt)
 leaves-exactly r Reset = (λ h. absurd h, λ h. h .1 refl)
+leaves-exactly r (Ask q) = (λ h. (λ span e. clash (cc), λ e. clash (cc)), λ h. tt)
 
 abbrev EachLeaves : ℕ → List Call → Type 0
-EachLeaves r cs = (before after : List Call) (c : Call) → cs ≡ before ++ (c ∷ after) → (c ≢ HandBack r) × (c ≢ Reset)
+EachLeaves r cs = (before after : List Call) (c : Call) → cs ≡ before ++ (c ∷ after) → Spares r c
 
 each-leaves : (r : ℕ) (cs : List Call) → AllLeave r cs → EachLeaves r cs
 each-leaves r [] h [] after c e = clash (cc)
 each-leaves r [] h (b ∷ before) after c e = clash (cc)
-each-leaves r (x ∷ cs) h [] after c e = let it-is : x ≡ c = cc in subst (λ y. (y ≢ HandBack r) × (y ≢ Reset)) it-is (leaves-exactly r x .0 (h .0))
+each-leaves r (x ∷ cs) h [] after c e = let it-is : x ≡ c = cc in subst (Spares r) it-is (leaves-exactly r x .0 (h .0))
 each-leaves r (x ∷ cs) h (b ∷ before) after c e = let rest : cs ≡ before ++ (c ∷ after) = cc in each-leaves r cs (h .1) before after c rest
 
 all-leave : (r : ℕ) (cs : List Call) → EachLeaves r cs → AllLeave r cs
@@ -149,37 +151,33 @@ live-listed r (free m q ∷ rest) n o a = go (where? a) (live-listed r rest n)
     go (further p z b) behind = behind p b
 
 -- ---- refusals
-of-take : {s k : ℕ} → CanRefuse (Take s) k → (k ≡ 3) ⊎ (k ≡ 4)
+of-take : {asked : Request} {k : ℕ} → CanRefuse (Take asked) k → (k ≡ 3) ⊎ (k ≡ 4)
 of-take too-few-spares = inl refl
 of-take none-reaches = inr refl
 
-of-hand-back : {r k : ℕ} → CanRefuse (HandBack r) k → k ≡ 5
+of-hand-back : {span : Token} {k : ℕ} → CanRefuse (HandBack span) k → k ≡ 5
 of-hand-back not-live = refl
 
-of-size : {r k : ℕ} → CanRefuse (SizeOf r) k → k ≡ 5
+of-size : {span : Token} {k : ℕ} → CanRefuse (Ask (SizeOf span)) k → k ≡ 5
 of-size unknown = refl
 
-take-refusals : (s k : ℕ) → CanRefuse (Take s) k ↔ ((k ≡ 3) ⊎ (k ≡ 4))
-take-refusals s k = (of-take, elim [ inl e ↦ rw e too-few-spares | inr e ↦ rw e none-reaches ])
+take-refusals : (asked : Request) (k : ℕ) → CanRefuse (Take asked) k ↔ ((k ≡ 3) ⊎ (k ≡ 4))
+take-refusals asked k = (of-take, elim [ inl e ↦ rw e too-few-spares | inr e ↦ rw e none-reaches ])
 
-no-refusals : (k : ℕ) → (¬ CanRefuse Report k) × (¬ CanRefuse FullReport k) × (¬ CanRefuse Reset k)
+no-refusals : (k : ℕ) → (¬ CanRefuse (Ask Report) k) × (¬ CanRefuse (Ask FullReport) k) × (¬ CanRefuse Reset k)
 no-refusals k = (elim [ ], elim [ ], elim [ ])
 
 -- ---- the history
 refusal-notes-nothing : (c : Call) (k : ℕ) (out : List Span) → note (event c (refused k)) out ≡ out
 unfolding note
-refusal-notes-nothing (Take s) k out = refl
-refusal-notes-nothing (HandBack r) k out = refl
-refusal-notes-nothing (SizeOf r) k out = refl
-refusal-notes-nothing Report k out = refl
-refusal-notes-nothing FullReport k out = refl
+refusal-notes-nothing (Take asked) k out = refl
+refusal-notes-nothing (HandBack span) k out = refl
 refusal-notes-nothing Reset k out = refl
+refusal-notes-nothing (Ask q) k out = refl
 
-question-notes-nothing : (c : Call) (a : Answer) (out : List Span) → Question c → note (event c a) out ≡ out
+question-notes-nothing : (q : Question) (a : Answer) (out : List Span) → note (event (Ask q) a) out ≡ out
 unfolding note
-question-notes-nothing (SizeOf r) a out size-query = refl
-question-notes-nothing Report a out short-report = refl
-question-notes-nothing FullReport a out full-report = refl
+question-notes-nothing q a out = refl
 
 -- no span of the list has this record; then none of those behind the first has
 abbrev NoneHas : ℕ → List Span → Type 0
@@ -214,16 +212,16 @@ strikes-no-other r (x ∷ out) h = go (same? (x .number) r) (strikes-no-other r 
     go (same p e) behind = absurd (h [] out x refl p)
     go (differ p e) behind = rw (e, behind)
 
-grant-notes-one : (s o r : ℕ) (out : List Span) → note (event (Take s) (granted o r)) out ≡ record { size = s; number = r } ∷ out
+grant-notes-one : (s o r : ℕ) (out : List Span) → note (event (takes s) (granted o r)) out ≡ record { size = s; number = r } ∷ out
 unfolding note
 grant-notes-one s o r out = refl
 
 return-strikes-one : (n r : ℕ) (front back : List Span) → NoneHas r front
-    → note (event (HandBack r) done) (front ++ (record { size = n; number = r } ∷ back)) ≡ front ++ back
+    → note (event (hands-back r) done) (front ++ (record { size = n; number = r } ∷ back)) ≡ front ++ back
 unfolding note
 return-strikes-one n r front back h = strikes-one n r front back h
 
-return-strikes-no-other : (r : ℕ) (out : List Span) → NoneHas r out → note (event (HandBack r) done) out ≡ out
+return-strikes-no-other : (r : ℕ) (out : List Span) → NoneHas r out → note (event (hands-back r) done) out ≡ out
 unfolding note
 return-strikes-no-other r out h = strikes-no-other r out h
 
@@ -241,12 +239,10 @@ meanings = record {
   apart-by-address = apart-by-address;
   leaves-exactly = leaves-exactly;
   all-leave-exactly = λ r cs. (each-leaves r cs, all-leave r cs);
-  may-grant = λ own es s o r h. grants h;
-  may-return = λ own es r h. returns h;
+  may-grant = λ own es asked o r h. grants h;
+  may-return = λ own es span h. returns h;
   may-refuse = λ own es c k h. refuses h;
-  may-ask-size = λ own es r a h. asks size-query h;
-  may-ask-report = λ own es a h. asks short-report h;
-  may-ask-full-report = λ own es a h. asks full-report h;
+  may-ask = λ own es q a h. asks h;
   may-end = may-end;
   none-or-free = none-or-free;
   remainder-of-0 = remainder-of-0;
@@ -256,8 +252,8 @@ meanings = record {
   live-counted = live-counted;
   live-records = λ r line. (listed-live r line, λ x. live-listed r line (x .0) (x .1) (x .2));
   take-refusals = take-refusals;
-  hand-back-refusals = λ r k. (of-hand-back, λ e. rw e not-live);
-  size-refusals = λ r k. (of-size, λ e. rw e unknown);
+  hand-back-refusals = λ span k. (of-hand-back, λ e. rw e not-live);
+  size-refusals = λ span k. (of-size, λ e. rw e unknown);
   no-refusals = no-refusals;
   numbers-many = λ r n. length-numbersFrom n r;
   numbers-each = numbers-each;

@@ -11,7 +11,7 @@ use lib.ListN.{length}
 use Rattle.basics.specs.Sum.{is, tally}
 use Rattle.basics.proofs.Clash.{clash}
 use Rattle.basics.proofs.Decided.{Below, below, beyond, below?}
-use Rattle.ledger.specs.Calls.{answer, Call, Take, HandBack, SizeOf, Report, FullReport, Reset}
+use Rattle.ledger.specs.Calls.{answer, Call, Take, HandBack, SizeOf, Report, FullReport, Reset, Ask}
 use Rattle.ledger.specs.WellFormed.{WellFormed}
 use Rattle.ledger.specs.Spans.{At}
 use Rattle.ledger.specs.Claims.{Granted, Refused, NoneReaches, Live, CanRefuse, too-few-spares, none-reaches, unknown}
@@ -115,41 +115,39 @@ module _ (E : Engine) (laws : Laws E) where
     -- ---- all calls
     pub no-other : (c : Call) (k : ℕ) (l : Ledger (E .Index)) → WellFormed E size count l → answer E size count c l .0 ≡ refused k → CanRefuse c k
     unfolding answer
-    no-other (Take s) k l w x = go (take-case E laws w s)
+    no-other (Take asked) k l w x = go (take-case E laws w (asked .size))
       where
-        go : TakeCase E s l → CanRefuse (Take s) k
-        go (few-spares h e) = let number : 3 ≡ k = cc in subst (CanRefuse (Take s)) number too-few-spares
-        go (no-region h empty e) = let number : 4 ≡ k = cc in subst (CanRefuse (Take s)) number none-reaches
+        go : TakeCase E (asked .size) l → CanRefuse (Take asked) k
+        go (few-spares h e) = let number : 3 ≡ k = cc in subst (CanRefuse (Take asked)) number too-few-spares
+        go (no-region h empty e) = let number : 4 ≡ k = cc in subst (CanRefuse (Take asked)) number none-reaches
         go (serves t) = clash (cc (t .outcome))
-    no-other (HandBack r) k l w x = go (live-case E w r)
+    no-other (HandBack span) k l w x = go (live-case E w (span .number))
       where
-        go : LiveCase E r l → CanRefuse (HandBack r) k
-        go (not-live h e q) = let number : 5 ≡ k = cc in subst (CanRefuse (HandBack r)) number CanRefuse.not-live
+        go : LiveCase E (span .number) l → CanRefuse (HandBack span) k
+        go (not-live h e q) = let number : 5 ≡ k = cc in subst (CanRefuse (HandBack span)) number CanRefuse.not-live
         go (is-live n before after b e q) = clash (cc)
-    no-other (SizeOf r) k l w x = go (live-case E w r)
-      where
-        go : LiveCase E r l → CanRefuse (SizeOf r) k
-        go (not-live h e q) = let number : 5 ≡ k = cc in subst (CanRefuse (SizeOf r)) number unknown
-        go (is-live n before after b e q) = clash (cc)
-    no-other Report k l w x = clash (cc)
-    no-other FullReport k l w x = clash (cc)
     no-other Reset k l w x = clash (cc)
+    no-other (Ask (SizeOf span)) k l w x = go (live-case E w (span .number))
+      where
+        go : LiveCase E (span .number) l → CanRefuse (Ask (SizeOf span)) k
+        go (not-live h e q) = let number : 5 ≡ k = cc in subst (CanRefuse (Ask (SizeOf span))) number unknown
+        go (is-live n before after b e q) = clash (cc)
+    no-other (Ask Report) k l w x = clash (cc)
+    no-other (Ask FullReport) k l w x = clash (cc)
 
     pub refused-same : (c : Call) (k : ℕ) (l : Ledger (E .Index)) → WellFormed E size count l
         → answer E size count c l .0 ≡ refused k → answer E size count c l .1 ≡ l
     unfolding answer
-    refused-same (Take s) k l w x = go (take-case E laws w s)
+    refused-same (Take asked) k l w x = go (take-case E laws w (asked .size))
       where
-        go : TakeCase E s l → take E s l .1 ≡ l
+        go : TakeCase E (asked .size) l → take E (asked .size) l .1 ≡ l
         go (few-spares h e) = ap (λ a. a .1) e
         go (no-region h empty e) = ap (λ a. a .1) e
         go (serves t) = clash (cc (t .outcome))
-    refused-same (HandBack r) k l w x = go (live-case E w r)
+    refused-same (HandBack span) k l w x = go (live-case E w (span .number))
       where
-        go : LiveCase E r l → handBack E r l .1 ≡ l
+        go : LiveCase E (span .number) l → handBack E (span .number) l .1 ≡ l
         go (not-live h e q) = ap (λ a. a .1) e
         go (is-live n before after b e q) = clash (cc)
-    refused-same (SizeOf r) k l w x = refl
-    refused-same Report k l w x = refl
-    refused-same FullReport k l w x = refl
     refused-same Reset k l w x = clash (cc)
+    refused-same (Ask q) k l w x = refl

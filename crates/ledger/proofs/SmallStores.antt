@@ -10,7 +10,7 @@ use Rattle.basics.proofs.Decided.{below, beyond, below?}
 use Rattle.small_float.specs.Class.{down, up}
 use Rattle.ledger.specs.Ledger.{Ledger, live, free, Answer, granted, done, refused, by-class, Stacks}
 use Rattle.ledger.specs.Ledger.{onTop, without, lowest, numbersFrom, setup, take, handBack}
-use Rattle.ledger.specs.Calls.{Call, Take, HandBack, answers}
+use Rattle.ledger.specs.Calls.{Call, takes, hands-back, answers, answer}
 use Rattle.ledger.specs.Claims.{Reached}
 use Rattle.ledger.specs.Runs.{Answering, SmallStores}
 use Rattle.ledger.proofs.Numbers.{length-numbersFrom}
@@ -32,25 +32,25 @@ two-spare count h = elim (below? 1 (length (numbersFrom 1 (count - 1)))) [
   | beyond k e ↦ absurd (omega (arith, length-numbersFrom (count - 1) 1))
 ]
 
-grants-16 : (count : ℕ) → 3 ≤ count → Answering 17 count (Take 16 ∷ []) (granted 0 0 ∷ [])
-unfolding answers setup up onTop without lowest
+grants-16 : (count : ℕ) → 3 ≤ count → Answering 17 count (takes 16 ∷ []) (granted 0 0 ∷ [])
+unfolding answer answers setup up onTop without lowest
 grants-16 count h = rw (two-spare count h)
 
-refuses-17 : (count : ℕ) → 3 ≤ count → Answering 17 count (Take 17 ∷ []) (refused 4 ∷ [])
-unfolding answers setup up onTop without lowest
+refuses-17 : (count : ℕ) → 3 ≤ count → Answering 17 count (takes 17 ∷ []) (refused 4 ∷ [])
+unfolding answer answers setup up onTop without lowest
 refuses-17 count h = rw (two-spare count h)
 
 -- ---- a store of 0
 -- a run call by call
 answers-take : (size count s : ℕ) (cs : List Call) (l : Ledger Stacks) (a : Answer × Ledger Stacks) → take by-class s l ≡ a
-    → answers by-class size count (Take s ∷ cs) l ≡ a .0 ∷ answers by-class size count cs (a .1)
-unfolding answers onTop without lowest
-answers-take size count s cs l a e = ap (λ x. x .0 ∷ answers by-class size count cs (x .1)) e
+    → answers (answer by-class size count) (takes s ∷ cs) l ≡ a .0 ∷ answers (answer by-class size count) cs (a .1)
+unfolding answer answers onTop without lowest
+answers-take size count s cs l a e = ap (λ x. x .0 ∷ answers (answer by-class size count) cs (x .1)) e
 
 answers-hand-back : (size count r : ℕ) (cs : List Call) (l : Ledger Stacks) (a : Answer × Ledger Stacks) → handBack by-class r l ≡ a
-    → answers by-class size count (HandBack r ∷ cs) l ≡ a .0 ∷ answers by-class size count cs (a .1)
-unfolding answers onTop without lowest
-answers-hand-back size count r cs l a e = ap (λ x. x .0 ∷ answers by-class size count cs (x .1)) e
+    → answers (answer by-class size count) (hands-back r ∷ cs) l ≡ a .0 ∷ answers (answer by-class size count) cs (a .1)
+unfolding answer answers onTop without lowest
+answers-hand-back size count r cs l a e = ap (λ x. x .0 ∷ answers (answer by-class size count) cs (x .1)) e
 
 -- its one region, free or live, with any spare records
 zeroFree : List ℕ → Ledger Stacks
@@ -74,15 +74,15 @@ returns-0 pile =
     λ i. (done, record { line = free 0 0 ∷ []; index = restored i; pile = pile })
 
 store-of-0 : (count : ℕ) → 3 ≤ count
-    → Answering 0 count (Take 0 ∷ Take 0 ∷ HandBack 0 ∷ Take 0 ∷ []) (granted 0 0 ∷ refused 4 ∷ done ∷ granted 0 0 ∷ [])
-unfolding setup zeroFree answers onTop without lowest
+    → Answering 0 count (takes 0 ∷ takes 0 ∷ hands-back 0 ∷ takes 0 ∷ []) (granted 0 0 ∷ refused 4 ∷ done ∷ granted 0 0 ∷ [])
+unfolding answer setup zeroFree answers onTop without lowest
 store-of-0 count h =
     let pile = numbersFrom 1 (count - 1) in
     let two = two-spare count h in
     let take-again = answers-take 0 count 0 [] (zeroFree pile) _ (grants-0 pile two) in
-    let return-it = answers-hand-back 0 count 0 (Take 0 ∷ []) (zeroLive pile) _ (returns-0 pile) in
-    let take-another = answers-take 0 count 0 (HandBack 0 ∷ Take 0 ∷ []) (zeroLive pile) _ (refuses-0 pile two) in
-    let take-one = answers-take 0 count 0 (Take 0 ∷ HandBack 0 ∷ Take 0 ∷ []) (zeroFree pile) _ (grants-0 pile two) in
+    let return-it = answers-hand-back 0 count 0 (takes 0 ∷ []) (zeroLive pile) _ (returns-0 pile) in
+    let take-another = answers-take 0 count 0 (hands-back 0 ∷ takes 0 ∷ []) (zeroLive pile) _ (refuses-0 pile two) in
+    let take-one = answers-take 0 count 0 (takes 0 ∷ hands-back 0 ∷ takes 0 ∷ []) (zeroFree pile) _ (grants-0 pile two) in
     take-one ∙ ap (λ rest. granted 0 0 ∷ rest) (take-another ∙ ap (λ rest. refused 4 ∷ rest) (return-it ∙ ap (λ rest. done ∷ rest) take-again))
 
 pub small-stores : SmallStores

@@ -9,7 +9,7 @@ use mathlib.Core.List.{List, [], _∷_, reverseAux}
 use lib.ListN.{getD}
 use Rattle.basics.specs.Sum.{tally}
 use Rattle.basics.proofs.Clash.{clash}
-use Rattle.ledger.specs.Calls.{answer, end, Call, Take, HandBack, SizeOf, Report, FullReport, Reset}
+use Rattle.ledger.specs.Calls.{answer, end, Call, Take, HandBack, Reset, Ask}
 use Rattle.ledger.specs.WellFormed.{WellFormed}
 use Rattle.ledger.specs.Spans.{At, first, later, Leaves, AllLeave}
 use Rattle.ledger.proofs.Places.{Between, Where, here, further, where?, at-none, at-behind}
@@ -114,25 +114,29 @@ module _ (E : Engine) (laws : Laws E) where
     pub call-leaves : (c : Call) (n r o : ℕ) (l : Ledger (E .Index)) → WellFormed E size count l → Leaves r c
         → At (live n r) o (l .line) → At (live n r) o (answer E size count c l .1 .line)
     unfolding answer
-    call-leaves (Take s) n r o l w h a = go (take-case E laws w s)
+    call-leaves (Take asked) n r o l w h a = go (take-case E laws w s)
       where
+        s : ℕ
+        s = asked .size
+
         go : TakeCase E s l → At (live n r) o (take E s l .1 .line)
         go (few-spares k e) = rw e a
         go (no-region k empty e) = rw e a
         go (serves t) = rw (t .outcome) (cut-leaves s (t .n - s) l (t .place) (omega (arith, t .long-enough)) a)
-    call-leaves (HandBack q) n r o l w h a = go (live-case E w q)
+    call-leaves (HandBack span) n r o l w h a = go (live-case E w q)
       where
+        q : ℕ
+        q = span .number
+
         go : LiveCase E q l → At (live n r) o (handBack E q l .1 .line)
         go (not-live k e z) = rw e a
         go (is-live m before after b e z) = rw e (merge-leaves l b h a)
-    call-leaves (SizeOf q) n r o l w h a = a
-    call-leaves Report n r o l w h a = a
-    call-leaves FullReport n r o l w h a = a
     call-leaves Reset n r o l w h a = absurd h
+    call-leaves (Ask q) n r o l w h a = a
 
     pub calls-leave : (cs : List Call) (n r o : ℕ) (l : Ledger (E .Index)) → WellFormed E size count l → AllLeave r cs
-        → At (live n r) o (l .line) → At (live n r) o (end E size count cs l .line)
-    unfolding end
+        → At (live n r) o (l .line) → At (live n r) o (end (answer E size count) cs l .line)
+    unfolding answer end
     calls-leave [] n r o l w h a = a
     calls-leave (c ∷ cs) n r o l w h a =
         calls-leave cs n r o (answer E size count c l .1) (call-well E laws size count two c l w) (h .1) (call-leaves c n r o l w (h .0) a)

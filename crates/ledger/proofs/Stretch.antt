@@ -4,21 +4,15 @@ use Rattle.ledger.specs.Laws.{Laws}
 use mathlib.Core.Path.{_≡_, refl, ap, _∙_}
 use Prim.Native.Nat.{ℕ}
 use mathlib.Core.List.{List, [], _∷_}
-use Rattle.ledger.specs.Calls.{answer, end, answers, log, Call, SizeOf, Report, FullReport, Event, event}
+use Rattle.ledger.specs.Calls.{answer, end, answers, log, Call, Event, event}
 use Rattle.ledger.specs.WellFormed.{WellFormed}
-use Rattle.ledger.specs.Stretch.{Question, size-query, short-report, full-report, Stretch, ended, grants, returns, refuses, asks}
+use Rattle.ledger.specs.Stretch.{Stretch, ended, grants, returns, refuses, asks}
 use Rattle.ledger.proofs.CallsWell.{take-well, hand-back-well}
 use Rattle.ledger.proofs.Refusals.{refused-same}
 use Rattle.ledger.proofs.Undo.{undo}
 
 module _ (E : Engine) (laws : Laws E) where
   module _ (size count : ℕ) where
-    question-same : (c : Call) (l : Ledger (E .Index)) → Question c → answer E size count c l .1 ≡ l
-    unfolding answer
-    question-same (SizeOf r) l size-query = refl
-    question-same Report l short-report = refl
-    question-same FullReport l full-report = refl
-
     -- r was granted in the ledger `earlier`, which left l
     record GrantedIn (earlier : Ledger (E .Index)) (r : ℕ) (l : Ledger (E .Index)) : Type 0 where
       s : ℕ
@@ -44,36 +38,35 @@ module _ (E : Engine) (laws : Laws E) where
         → (start l : Ledger (E .Index)) → answer E size count c l .0 ≡ a → WellFormed E size count l → Trail start own l
         → Midway start es (answer E size count c l .1)
     unfolding answer
-    onward (grants {own = own} {s = s} {o = o} {r = r} h) start l e w trail = record {
+    onward (grants {own = own} {asked = asked} {o = o} {r = r} h) start l e w trail = record {
       own = r ∷ own;
       stretch = h;
-      well = take-well E laws size count s l w;
-      trail = (l, trail, record { s = s; o = o; well = w; is-granted = e; left = refl });
+      well = take-well E laws size count (asked .size) l w;
+      trail = (l, trail, record { s = asked .size; o = o; well = w; is-granted = e; left = refl });
     }
-    onward (returns {own = own} {r = r} h) start l e w trail =
+    onward (returns {own = own} {span = span} h) start l e w trail =
         let g = trail .2 in
+        let r = span .number in
         let undone : handBack E r l .1 ≡ trail .0 =
         ap (λ k. handBack E r k .1) (g .left) ∙ ap (λ x. x .1) (undo E laws size count (g .s) (g .o) r (trail .0) (g .well) (g .is-granted)) in
         record { own = own; stretch = h; well = hand-back-well E laws size count r l w; trail = rw undone (trail .1) }
     onward (refuses {own = own} {c = c} {k = k} h) start l e w trail =
         let unchanged = refused-same E laws size count c k l w e in
         record { own = own; stretch = h; well = rw unchanged w; trail = rw unchanged trail }
-    onward (asks {own = own} {c = c} q h) start l e w trail =
-        let unchanged = question-same c l q in
-        record { own = own; stretch = h; well = rw unchanged w; trail = rw unchanged trail }
+    onward (asks {own = own} h) start l e w trail = record { own = own; stretch = h; well = w; trail = trail }
 
     at-the-end : {own : List ℕ} (start l : Ledger (E .Index)) → Stretch own [] → Trail start own l → l ≡ start
     at-the-end start l ended trail = trail
 
-    to-the-end : (cs : List Call) (start l : Ledger (E .Index)) → Midway start (log E size count cs l) l → end E size count cs l ≡ start
-    unfolding end log
+    to-the-end : (cs : List Call) (start l : Ledger (E .Index)) → Midway start (log (answer E size count) cs l) l → end (answer E size count) cs l ≡ start
+    unfolding answer end log
     to-the-end [] start l m = at-the-end start l (m .stretch) (m .trail)
     to-the-end (c ∷ cs) start l m = to-the-end cs start (answer E size count c l .1) (onward (m .stretch) start l refl (m .well) (m .trail))
 
-    pub stretch-restores : (cs : List Call) (l : Ledger (E .Index)) → WellFormed E size count l → Stretch [] (log E size count cs l)
-        → end E size count cs l ≡ l
+    pub stretch-restores : (cs : List Call) (l : Ledger (E .Index)) → WellFormed E size count l → Stretch [] (log (answer E size count) cs l)
+        → end (answer E size count) cs l ≡ l
     stretch-restores cs l w h = to-the-end cs l l record { own = []; stretch = h; well = w; trail = refl }
 
-    pub as-though-never : (cs : List Call) (l : Ledger (E .Index)) → WellFormed E size count l → Stretch [] (log E size count cs l)
-        → (later-calls : List Call) → answers E size count later-calls (end E size count cs l) ≡ answers E size count later-calls l
-    as-though-never cs l w h later-calls = ap (answers E size count later-calls) (stretch-restores cs l w h)
+    pub as-though-never : (cs : List Call) (l : Ledger (E .Index)) → WellFormed E size count l → Stretch [] (log (answer E size count) cs l)
+        → (later-calls : List Call) → answers (answer E size count) later-calls (end (answer E size count) cs l) ≡ answers (answer E size count) later-calls l
+    as-though-never cs l w h later-calls = ap (answers (answer E size count) later-calls) (stretch-restores cs l w h)

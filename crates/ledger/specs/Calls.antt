@@ -1,15 +1,38 @@
 -- One type of calls, and runs of them with their answers. Assumes nothing.
+use mathlib.Core.Path.{_≡_}
 use Prim.Native.Nat.{ℕ}
-use mathlib.Core.List.{List, [], _∷_}
+use mathlib.Core.List.{List, [], _∷_, _++_, map}
 use Rattle.ledger.specs.Ledger.{Engine, Ledger, Answer, done, reported, classes, setup, take, handBack, sizeOf, report, fullReport}
 
+-- what a take asks for
+pub record Request : Type 0 where
+  pub size : ℕ
+
+-- how a caller names a span again
+pub record Token : Type 0 where
+  pub number : ℕ
+
+-- calls that change nothing
+pub data Question : Type 0 where
+  SizeOf : Token → Question
+  Report : Question
+  FullReport : Question
+
 pub data Call : Type 0 where
-  Take : (s : ℕ) → Call
-  HandBack : (r : ℕ) → Call
-  SizeOf : (r : ℕ) → Call
-  Report : Call
-  FullReport : Call
+  Take : Request → Call
+  HandBack : Token → Call
   Reset : Call
+  Ask : Question → Call
+
+-- calls as rows and examples write them
+abbrev pub takes : (s : ℕ) → Call
+takes s = Take record { size = s }
+
+abbrev pub hands-back : (r : ℕ) → Call
+hands-back r = HandBack record { number = r }
+
+abbrev pub asks-size : (r : ℕ) → Call
+asks-size r = Ask (SizeOf record { number = r })
 
 -- a call with its answer
 pub data Event : Type 0 where
@@ -23,28 +46,42 @@ answerOf (event c a) = a
 
 -- a store set up with this size and this count of records, under this engine
 module _ (E : Engine) (size count : ℕ) where
+  unfoldable pub told : Question → Ledger (E .Index) → Answer
+  unfolding sizeOf report
+  told (SizeOf span) l = sizeOf (span .number) l
+  told Report l = reported (report E l .0) (report E l .1)
+  told FullReport l = classes (fullReport E l)
+
   -- the answer, and the ledger after it
   unfoldable pub answer : Call → Ledger (E .Index) → Answer × Ledger (E .Index)
-  unfolding take handBack sizeOf report setup
-  answer (Take s) l = take E s l
-  answer (HandBack r) l = handBack E r l
-  answer (SizeOf r) l = (sizeOf r l, l)
-  answer Report l = (reported (report E l .0) (report E l .1), l)
-  answer FullReport l = (classes (fullReport E l), l)
+  unfolding take handBack told setup
+  answer (Take asked) l = take E (asked .size) l
+  answer (HandBack span) l = handBack E (span .number) l
   answer Reset l = (done, setup E size count)
+  answer (Ask q) l = (told q l, l)
 
-  -- what a run of calls leaves, its answers, and its log of calls with their answers
-  unfoldable pub end : List Call → Ledger (E .Index) → Ledger (E .Index)
-  unfolding answer
-  end [] l = l
-  end (c ∷ cs) l = end cs (answer c l .1)
+-- ---- a run of calls on whatever answers a call and is left otherwise by it, a ledger here and words above: what it leaves, its answers, and its log of
+-- calls with their answers
+module _ {State : Type 0} (one-call : Call → State → Answer × State) where
+  unfoldable pub end : List Call → State → State
+  end [] s = s
+  end (c ∷ cs) s = end cs (one-call c s .1)
 
-  unfoldable pub answers : List Call → Ledger (E .Index) → List Answer
-  unfolding answer
-  answers [] l = []
-  answers (c ∷ cs) l = answer c l .0 ∷ answers cs (answer c l .1)
+  unfoldable pub answers : List Call → State → List Answer
+  answers [] s = []
+  answers (c ∷ cs) s = one-call c s .0 ∷ answers cs (one-call c s .1)
 
-  unfoldable pub log : List Call → Ledger (E .Index) → List Event
-  unfolding answer
-  log [] l = []
-  log (c ∷ cs) l = event c (answer c l .0) ∷ log cs (answer c l .1)
+  unfoldable pub log : List Call → State → List Event
+  log [] s = []
+  log (c ∷ cs) s = event c (one-call c s .0) ∷ log cs (one-call c s .1)
+
+-- a run told from its last call: what it leaves and answers there; its log has its calls and its answers. proofs/RunsMean.antt makes it
+pub record RunsMean : Type 1 where
+  pub end-none : {State : Type 0} (one-call : Call → State → Answer × State) (s : State) → end one-call [] s ≡ s
+  pub end-last : {State : Type 0} (one-call : Call → State → Answer × State) (cs : List Call) (c : Call) (s : State)
+      → end one-call (cs ++ (c ∷ [])) s ≡ one-call c (end one-call cs s) .1
+  pub answers-last : {State : Type 0} (one-call : Call → State → Answer × State) (cs : List Call) (c : Call) (s : State)
+      → answers one-call (cs ++ (c ∷ [])) s ≡ answers one-call cs s ++ (one-call c (end one-call cs s) .0 ∷ [])
+  pub log-calls : {State : Type 0} (one-call : Call → State → Answer × State) (cs : List Call) (s : State) → map callOf (log one-call cs s) ≡ cs
+  pub log-answers : {State : Type 0} (one-call : Call → State → Answer × State) (cs : List Call) (s : State)
+      → map answerOf (log one-call cs s) ≡ answers one-call cs s

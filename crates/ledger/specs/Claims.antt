@@ -15,7 +15,7 @@ use Rattle.small_float.specs.Class.{down, up, value, shownValue}
 use Rattle.small_float.specs.Facts.{Serves}
 use Rattle.ledger.specs.Ledger.{Engine, by-class, Stacks, Ledger, Region, live, free, len, rec, granted, done, length-is, refused}
 use Rattle.ledger.specs.Ledger.{setup, take, handBack, sizeOf, freeLen, report, fullReport, numbersFrom}
-use Rattle.ledger.specs.Calls.{Call, Take, HandBack, SizeOf, Reset, callOf, answerOf, answer, end, answers, log}
+use Rattle.ledger.specs.Calls.{Request, Token, SizeOf, Call, Take, HandBack, Reset, Ask, callOf, answerOf, answer, end, answers, log}
 use Rattle.ledger.specs.Figures.{refusalOf, figureCount, figuresOf}
 use Rattle.ledger.specs.WellFormed.{WellFormed}
 use Rattle.ledger.specs.Spans.{At, FreeIn, Among, Disjoint, AllLeave}
@@ -39,10 +39,10 @@ Live r l = (n : ℕ) × (o : ℕ) × At (live n r) o (l .line)
 
 -- the refusals that a ledger in order can give
 pub data CanRefuse : Call → ℕ → Type 0 where
-  too-few-spares : {s : ℕ} → CanRefuse (Take s) 3
-  none-reaches : {s : ℕ} → CanRefuse (Take s) 4
-  not-live : {r : ℕ} → CanRefuse (HandBack r) 5
-  unknown : {r : ℕ} → CanRefuse (SizeOf r) 5
+  too-few-spares : {asked : Request} → CanRefuse (Take asked) 3
+  none-reaches : {asked : Request} → CanRefuse (Take asked) 4
+  not-live : {span : Token} → CanRefuse (HandBack span) 5
+  unknown : {span : Token} → CanRefuse (Ask (SizeOf span)) 5
 
 -- "A remainder above 0 takes the next record of the pile": what is left of a region, and what is left of the pile
 pub data Remainder (left : ℕ) (pile : List ℕ) : List Region → List ℕ → Type 0 where
@@ -94,7 +94,7 @@ pub record Return (E : Engine) (n r o : ℕ) (l : Ledger (E .Index)) : Type 0 wh
 
 -- a ledger that some run of calls after the setup leaves
 abbrev pub Reached : (E : Engine) → ℕ → ℕ → Ledger (E .Index) → Type 0
-Reached E size count l = (cs : List Call) × (l ≡ end E size count cs (setup E size count))
+Reached E size count l = (cs : List Call) × (l ≡ end (answer E size count) cs (setup E size count))
 
 pub record EngineClaims (E : Engine) (size count : ℕ) : Type 0 where
   -- ---- the ledger is in order after the setup and after every call
@@ -104,14 +104,6 @@ pub record EngineClaims (E : Engine) (size count : ℕ) : Type 0 where
   pub setup-reached : Reached E size count (setup E size count)
   pub call-reached : (c : Call) (l : Ledger (E .Index)) → Reached E size count l → Reached E size count (answer E size count c l .1)
   pub reached-well : (l : Ledger (E .Index)) → Reached E size count l → WellFormed E size count l
-  -- a run told from its last call: what it leaves and answers there; its log has its calls and its answers
-  pub end-none : (l : Ledger (E .Index)) → end E size count [] l ≡ l
-  pub end-last : (cs : List Call) (c : Call) (l : Ledger (E .Index))
-      → end E size count (cs ++ (c ∷ [])) l ≡ answer E size count c (end E size count cs l) .1
-  pub answers-last : (cs : List Call) (c : Call) (l : Ledger (E .Index))
-      → answers E size count (cs ++ (c ∷ [])) l ≡ answers E size count cs l ++ (answer E size count c (end E size count cs l) .0 ∷ [])
-  pub log-calls : (cs : List Call) (l : Ledger (E .Index)) → map callOf (log E size count cs l) ≡ cs
-  pub log-answers : (cs : List Call) (l : Ledger (E .Index)) → map answerOf (log E size count cs l) ≡ answers E size count cs l
   -- ---- "Setup and reset: the pile yields 0 first, then 1, and so on. One free region [0, size) takes record 0."
   pub fresh-line : setup E size count .line ≡ free size 0 ∷ []
   pub fresh-spares : length (setup E size count .pile) + 1 ≡ count
@@ -142,10 +134,10 @@ pub record EngineClaims (E : Engine) (size count : ℕ) : Type 0 where
   pub grant-alone : (s o r : ℕ) (l : Ledger (E .Index)) → WellFormed E size count l → take E s l .0 ≡ granted o r
       → (n q p : ℕ) → At (live n q) p (l .line) → Disjoint o s p n
   pub grant-lasts : (s o r : ℕ) (l : Ledger (E .Index)) → WellFormed E size count l → take E s l .0 ≡ granted o r
-      → (cs : List Call) → AllLeave r cs → At (live s r) o (end E size count cs (take E s l .1) .line)
+      → (cs : List Call) → AllLeave r cs → At (live s r) o (end (answer E size count) cs (take E s l .1) .line)
   pub grant-stays-alone : (s o r : ℕ) (l : Ledger (E .Index)) → WellFormed E size count l → take E s l .0 ≡ granted o r
       → (cs : List Call) → AllLeave r cs
-      → (n q p : ℕ) → At (live n q) p (end E size count cs (take E s l .1) .line) → q ≢ r → Disjoint o s p n
+      → (n q p : ℕ) → At (live n q) p (end (answer E size count) cs (take E s l .1) .line) → q ≢ r → Disjoint o s p n
   -- ---- a hand-back of a live region: what it merges with, where the merged region lies, which record it keeps, what goes onto the pile
   pub return : (n r o : ℕ) (l : Ledger (E .Index)) → WellFormed E size count l → At (live n r) o (l .line) → Return E n r o l
   -- ---- a record is live exactly if a live region of the line has it, and the size query tells its length
@@ -181,25 +173,25 @@ pub record EngineClaims (E : Engine) (size count : ℕ) : Type 0 where
   -- ---- "Live lengths, summed from the history of grants and returns since the last setup or reset, plus the lengths of the ledger's free
   -- regions, always make the size."
   pub history-sum : (cs : List Call)
-      → tally (λ (x : Span). x .size) (outAfter (log E size count cs (setup E size count)) [])
-      + tally freeLen (end E size count cs (setup E size count) .line) ≡ size
+      → tally (λ (x : Span). x .size) (outAfter (log (answer E size count) cs (setup E size count)) [])
+      + tally freeLen (end (answer E size count) cs (setup E size count) .line) ≡ size
   -- the spans that are out by the history are the live regions, each with its length and record
   pub history-live : (cs : List Call) (n r : ℕ)
-      → IsOut n r (outAfter (log E size count cs (setup E size count)) [])
-      ↔ ((o : ℕ) × At (live n r) o (end E size count cs (setup E size count) .line))
+      → IsOut n r (outAfter (log (answer E size count) cs (setup E size count)) [])
+      ↔ ((o : ℕ) × At (live n r) o (end (answer E size count) cs (setup E size count) .line))
   -- ---- "A take of s is then granted exactly when a free region exists and s is at most that second number."
   pub report-rule : (s : ℕ) (l : Ledger (E .Index)) → WellFormed E size count l → 2 ≤ length (l .pile)
       → Granted E s l ↔ (((n : ℕ) × FreeIn n (l .line)) × (s ≤ report E l .1))
   -- and its first number is what the spans that are out leave of the size
-  pub report-total : (cs : List Call) → 2 ≤ length (end E size count cs (setup E size count) .pile)
-      → tally (λ (x : Span). x .size) (outAfter (log E size count cs (setup E size count)) [])
-      + report E (end E size count cs (setup E size count)) .0 ≡ size
+  pub report-total : (cs : List Call) → 2 ≤ length (end (answer E size count) cs (setup E size count) .pile)
+      → tally (λ (x : Span). x .size) (outAfter (log (answer E size count) cs (setup E size count)) [])
+      + report E (end (answer E size count) cs (setup E size count)) .0 ≡ size
   pub report-one-spare : (l : Ledger (E .Index)) → length (l .pile) ≤ 1 → report E l ≡ (0, 0)
   -- ---- demand 3: the stretch ends in the identical ledger, so "every later call .. answers as though the stretch had never been"
-  pub stretch-restores : (cs : List Call) (l : Ledger (E .Index)) → WellFormed E size count l → Stretch [] (log E size count cs l)
-      → end E size count cs l ≡ l
-  pub as-though-never : (cs : List Call) (l : Ledger (E .Index)) → WellFormed E size count l → Stretch [] (log E size count cs l)
-      → (later-calls : List Call) → answers E size count later-calls (end E size count cs l) ≡ answers E size count later-calls l
+  pub stretch-restores : (cs : List Call) (l : Ledger (E .Index)) → WellFormed E size count l → Stretch [] (log (answer E size count) cs l)
+      → end (answer E size count) cs l ≡ l
+  pub as-though-never : (cs : List Call) (l : Ledger (E .Index)) → WellFormed E size count l → Stretch [] (log (answer E size count) cs l)
+      → (later-calls : List Call) → answers (answer E size count) later-calls (end (answer E size count) cs l) ≡ answers (answer E size count) later-calls l
 
 -- ---- document 01's engine by itself
 -- 1 for a free region of class c: their sum is the number of free regions of that class

@@ -8,10 +8,10 @@ use lib.ListN.{length, getD}
 use Rattle.basics.specs.Sum.{tally}
 use Rattle.small_float.specs.Class.{down}
 use Rattle.ledger.specs.Ledger.{Region, live, free, len, Stacks, onTop, numbersFrom, Answer, granted, done, refused}
-use Rattle.ledger.specs.Calls.{Call, Take, HandBack, SizeOf, Report, FullReport, Reset, Event, event}
+use Rattle.ledger.specs.Calls.{Request, Token, Question, SizeOf, Report, FullReport, Call, Take, HandBack, Reset, Ask, takes, hands-back, Event, event}
 use Rattle.ledger.specs.Spans.{At, FreeIn, Among, Disjoint, Leaves, AllLeave}
 use Rattle.ledger.specs.History.{Span, note, liveOne}
-use Rattle.ledger.specs.Stretch.{Question, Stretch}
+use Rattle.ledger.specs.Stretch.{Stretch}
 use Rattle.ledger.specs.Claims.{CanRefuse, NoneOrFree, Remainder, OnTop}
 
 -- the records of the live regions, in the line's order
@@ -37,16 +37,17 @@ pub record Meanings : Type 0 where
   pub disjoint-both-ways : (o n p m : ℕ) → Disjoint o n p m → Disjoint p m o n
   pub apart-by-address : (o n p m : ℕ) → 1 ≤ n → 1 ≤ m → ((a : ℕ) → Inside a o n → ¬ Inside a p m) → Disjoint o n p m
   -- ---- calls that leave r: all but a hand-back of r and a reset
-  pub leaves-exactly : (r : ℕ) (c : Call) → Leaves r c ↔ ((c ≢ HandBack r) × (c ≢ Reset))
+  pub leaves-exactly : (r : ℕ) (c : Call) → Leaves r c ↔ (((span : Token) → c ≡ HandBack span → span .number ≢ r) × (c ≢ Reset))
   pub all-leave-exactly : (r : ℕ) (cs : List Call)
-      → AllLeave r cs ↔ ((before after : List Call) (c : Call) → cs ≡ before ++ (c ∷ after) → (c ≢ HandBack r) × (c ≢ Reset))
+      → AllLeave r cs ↔ ((before after : List Call) (c : Call) → cs ≡ before ++ (c ∷ after)
+      → ((span : Token) → c ≡ HandBack span → span .number ≢ r) × (c ≢ Reset))
   -- ---- a stretch may begin with any grant, the return of the last granted, any refused call and any question, however it is answered
-  pub may-grant : (own : List ℕ) (es : List Event) (s o r : ℕ) → Stretch (r ∷ own) es → Stretch own (event (Take s) (granted o r) ∷ es)
-  pub may-return : (own : List ℕ) (es : List Event) (r : ℕ) → Stretch own es → Stretch (r ∷ own) (event (HandBack r) done ∷ es)
+  pub may-grant : (own : List ℕ) (es : List Event) (asked : Request) (o r : ℕ) → Stretch (r ∷ own) es
+      → Stretch own (event (Take asked) (granted o r) ∷ es)
+  pub may-return : (own : List ℕ) (es : List Event) (span : Token) → Stretch own es
+      → Stretch (span .number ∷ own) (event (HandBack span) done ∷ es)
   pub may-refuse : (own : List ℕ) (es : List Event) (c : Call) (k : ℕ) → Stretch own es → Stretch own (event c (refused k) ∷ es)
-  pub may-ask-size : (own : List ℕ) (es : List Event) (r : ℕ) (a : Answer) → Stretch own es → Stretch own (event (SizeOf r) a ∷ es)
-  pub may-ask-report : (own : List ℕ) (es : List Event) (a : Answer) → Stretch own es → Stretch own (event Report a ∷ es)
-  pub may-ask-full-report : (own : List ℕ) (es : List Event) (a : Answer) → Stretch own es → Stretch own (event FullReport a ∷ es)
+  pub may-ask : (own : List ℕ) (es : List Event) (q : Question) (a : Answer) → Stretch own es → Stretch own (event (Ask q) a ∷ es)
   -- it ends where nothing is owed
   pub may-end : (own : List ℕ) → Stretch own [] ↔ (own ≡ [])
   -- ---- what stands beside a region that is handed back, what is left of one that is granted, and what goes on top of its class
@@ -60,20 +61,20 @@ pub record Meanings : Type 0 where
   pub live-counted : (line : List Region) → tally liveOne line ≡ length (liveRecords line)
   pub live-records : (r : ℕ) (line : List Region) → Among r (liveRecords line) ↔ ((n : ℕ) × (o : ℕ) × At (live n r) o line)
   -- ---- which numbers a call can be refused with
-  pub take-refusals : (s k : ℕ) → CanRefuse (Take s) k ↔ ((k ≡ 3) ⊎ (k ≡ 4))
-  pub hand-back-refusals : (r k : ℕ) → CanRefuse (HandBack r) k ↔ (k ≡ 5)
-  pub size-refusals : (r k : ℕ) → CanRefuse (SizeOf r) k ↔ (k ≡ 5)
-  pub no-refusals : (k : ℕ) → (¬ CanRefuse Report k) × (¬ CanRefuse FullReport k) × (¬ CanRefuse Reset k)
+  pub take-refusals : (asked : Request) (k : ℕ) → CanRefuse (Take asked) k ↔ ((k ≡ 3) ⊎ (k ≡ 4))
+  pub hand-back-refusals : (span : Token) (k : ℕ) → CanRefuse (HandBack span) k ↔ (k ≡ 5)
+  pub size-refusals : (span : Token) (k : ℕ) → CanRefuse (Ask (SizeOf span)) k ↔ (k ≡ 5)
+  pub no-refusals : (k : ℕ) → (¬ CanRefuse (Ask Report) k) × (¬ CanRefuse (Ask FullReport) k) × (¬ CanRefuse Reset k)
   -- ---- the n numbers from r on: n of them, the i-th of which is r + i
   pub numbers-many : (r n : ℕ) → length (numbersFrom r n) ≡ n
   pub numbers-each : (r n i : ℕ) → i < n → getD (numbersFrom r n) i 0 ≡ r + i
   -- ---- the history: a refused call, a reset among them, and a question leave the spans that are out
   pub refusal-notes-nothing : (c : Call) (k : ℕ) (out : List Span) → note (event c (refused k)) out ≡ out
-  pub question-notes-nothing : (c : Call) (a : Answer) (out : List Span) → Question c → note (event c a) out ≡ out
+  pub question-notes-nothing : (q : Question) (a : Answer) (out : List Span) → note (event (Ask q) a) out ≡ out
   -- a grant adds one span; a return that is done strikes the last such, and no other; a reset that is done strikes all
-  pub grant-notes-one : (s o r : ℕ) (out : List Span) → note (event (Take s) (granted o r)) out ≡ record { size = s; number = r } ∷ out
+  pub grant-notes-one : (s o r : ℕ) (out : List Span) → note (event (takes s) (granted o r)) out ≡ record { size = s; number = r } ∷ out
   pub return-strikes-one : (n r : ℕ) (front back : List Span) → ((xs ys : List Span) (x : Span) → front ≡ xs ++ (x ∷ ys) → x .number ≢ r)
-      → note (event (HandBack r) done) (front ++ (record { size = n; number = r } ∷ back)) ≡ front ++ back
+      → note (event (hands-back r) done) (front ++ (record { size = n; number = r } ∷ back)) ≡ front ++ back
   pub return-strikes-no-other : (r : ℕ) (out : List Span) → ((xs ys : List Span) (x : Span) → out ≡ xs ++ (x ∷ ys) → x .number ≢ r)
-      → note (event (HandBack r) done) out ≡ out
+      → note (event (hands-back r) done) out ≡ out
   pub reset-strikes-all : (out : List Span) → note (event Reset done) out ≡ []

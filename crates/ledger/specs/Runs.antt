@@ -5,7 +5,7 @@ use mathlib.Core.Path.{_≡_}
 use Prim.Native.Nat.{ℕ, _≤_}
 use mathlib.Core.List.{List, [], _∷_, map}
 use Rattle.ledger.specs.Ledger.{by-class, Stacks, Ledger, Answer, granted, done, length-is, reported, refused, live, free, setup, take, report}
-use Rattle.ledger.specs.Calls.{Call, Take, HandBack, SizeOf, Report, FullReport, Reset, Event, event, answer, end, answers, log}
+use Rattle.ledger.specs.Calls.{Report, FullReport, Call, Reset, Ask, takes, hands-back, asks-size, Event, event, answer, end, answers, log}
 use Rattle.ledger.specs.Figures.{refusalOf, inARow, figuresOf}
 use Rattle.ledger.specs.Stretch.{Stretch}
 use Rattle.ledger.specs.Claims.{Reached}
@@ -19,27 +19,27 @@ follow size count (c ∷ cs) l =
     (a .0, report by-class (a .1)) ∷ follow size count cs (a .1)
 
 abbrev pub Answering : ℕ → ℕ → List Call → List Answer → Type 0
-Answering size count calls expected = answers by-class size count calls (setup by-class size count) ≡ expected
+Answering size count calls expected = answers (answer by-class size count) calls (setup by-class size count) ≡ expected
 
 -- a row says what is answered, each answer in its place
 pub record RowsMean : Type 0 where
   pub answering : (size count : ℕ) (calls : List Call) (expected : List Answer) → Answering size count calls expected
-      → answers by-class size count calls (setup by-class size count) ≡ expected
+      → answers (answer by-class size count) calls (setup by-class size count) ≡ expected
 
 -- ---- "Size 100, count 6. Report 100, 96."
 abbrev pub the-calls : List Call
 the-calls =
-    Take 20
-    ∷ Take 30
-    ∷ Take 49
-    ∷ Take 48
-    ∷ HandBack 1
-    ∷ HandBack 1
-    ∷ Take 0
-    ∷ Take 1
-    ∷ HandBack 0
-    ∷ HandBack 3
-    ∷ HandBack 2
+    takes 20
+    ∷ takes 30
+    ∷ takes 49
+    ∷ takes 48
+    ∷ hands-back 1
+    ∷ hands-back 1
+    ∷ takes 0
+    ∷ takes 1
+    ∷ hands-back 0
+    ∷ hands-back 3
+    ∷ hands-back 2
     ∷ []
 
 abbrev pub the-answers : List (Answer × (ℕ × ℕ))
@@ -61,56 +61,56 @@ pub record DocumentRun : Type 0 where
   pub first-report : report by-class (setup by-class 100 6) ≡ (100, 96)
   pub the-run : follow 100 6 the-calls (setup by-class 100 6) ≡ the-answers
   -- "The one region now belongs to record 2"
-  pub record-2 : end by-class 100 6 the-calls (setup by-class 100 6) .line ≡ free 100 2 ∷ []
+  pub record-2 : end (answer by-class 100 6) the-calls (setup by-class 100 6) .line ≡ free 100 2 ∷ []
 
 -- ---- the sentences after the run, each over all that it speaks of
 pub record SmallStores : Type 0 where
   -- "2 accepted though every take gives 3" (which counts are accepted is the setup call's to say, not the ledger's)
   pub count-2 : (size s : ℕ) (l : Ledger Stacks) → Reached by-class size 2 l → take by-class s l .0 ≡ refused 3
   -- "With count 3 or more, a fresh store of 17 grants 16, or refuses 17"
-  pub grants-16 : (count : ℕ) → 3 ≤ count → Answering 17 count (Take 16 ∷ []) (granted 0 0 ∷ [])
-  pub refuses-17 : (count : ℕ) → 3 ≤ count → Answering 17 count (Take 17 ∷ []) (refused 4 ∷ [])
+  pub grants-16 : (count : ℕ) → 3 ≤ count → Answering 17 count (takes 16 ∷ []) (granted 0 0 ∷ [])
+  pub refuses-17 : (count : ℕ) → 3 ≤ count → Answering 17 count (takes 17 ∷ []) (refused 4 ∷ [])
   -- "A fresh store of 0 with such a count grants one take of 0 and gives 4 to the next, until it is handed back."
   pub store-of-0 : (count : ℕ) → 3 ≤ count
-      → Answering 0 count (Take 0 ∷ Take 0 ∷ HandBack 0 ∷ Take 0 ∷ []) (granted 0 0 ∷ refused 4 ∷ done ∷ granted 0 0 ∷ [])
+      → Answering 0 count (takes 0 ∷ takes 0 ∷ hands-back 0 ∷ takes 0 ∷ []) (granted 0 0 ∷ refused 4 ∷ done ∷ granted 0 0 ∷ [])
 
 -- ---- "Ways to get it nearly right": what the run by itself does not catch
 pub record NearlyRight : Type 0 where
   -- fit tested before spares: with one spare and no region long enough the answer is 3
-  pub spares-first : Answering 100 3 (Take 20 ∷ Take 1000 ∷ []) (granted 0 0 ∷ refused 3 ∷ [])
+  pub spares-first : Answering 100 3 (takes 20 ∷ takes 1000 ∷ []) (granted 0 0 ∷ refused 3 ∷ [])
   -- a freed region put at the tail of its stack: of two of one class the last freed is granted
-  pub last-freed-first : Answering 100 8 (Take 10 ∷ Take 10 ∷ Take 10 ∷ Take 10 ∷ HandBack 0 ∷ HandBack 2 ∷ Take 10 ∷ [])
+  pub last-freed-first : Answering 100 8 (takes 10 ∷ takes 10 ∷ takes 10 ∷ takes 10 ∷ hands-back 0 ∷ hands-back 2 ∷ takes 10 ∷ [])
       (granted 0 0 ∷ granted 10 1 ∷ granted 20 2 ∷ granted 30 3 ∷ done ∷ done ∷ granted 20 2 ∷ [])
   -- the pile's order swapped: of two merged away, the one after is taken first
   pub before-goes-first :
-      Answering 100 8 (Take 10 ∷ Take 10 ∷ Take 10 ∷ Take 10 ∷ HandBack 0 ∷ HandBack 2 ∷ HandBack 1 ∷ Take 5 ∷ Take 5 ∷ Take 5 ∷ [])
+      Answering 100 8 (takes 10 ∷ takes 10 ∷ takes 10 ∷ takes 10 ∷ hands-back 0 ∷ hands-back 2 ∷ hands-back 1 ∷ takes 5 ∷ takes 5 ∷ takes 5 ∷ [])
       (granted 0 0 ∷ granted 10 1 ∷ granted 20 2 ∷ granted 30 3 ∷ done ∷ done ∷ done ∷ granted 0 1 ∷ granted 5 2 ∷ granted 10 0 ∷ [])
   -- the merged region given the earlier record
-  pub keeps-its-record : Answering 100 6 (Take 10 ∷ Take 10 ∷ Take 10 ∷ HandBack 0 ∷ HandBack 1 ∷ Take 20 ∷ [])
+  pub keeps-its-record : Answering 100 6 (takes 10 ∷ takes 10 ∷ takes 10 ∷ hands-back 0 ∷ hands-back 1 ∷ takes 20 ∷ [])
       (granted 0 0 ∷ granted 10 1 ∷ granted 20 2 ∷ done ∷ done ∷ granted 0 1 ∷ [])
   -- the last spare spent: count 3 has one live span at most
-  pub last-spare-kept : Answering 100 3 (Take 10 ∷ Take 10 ∷ HandBack 0 ∷ Take 100 ∷ Take 96 ∷ [])
+  pub last-spare-kept : Answering 100 3 (takes 10 ∷ takes 10 ∷ hands-back 0 ∷ takes 100 ∷ takes 96 ∷ [])
       (granted 0 0 ∷ refused 3 ∷ done ∷ refused 4 ∷ granted 0 0 ∷ [])
   -- the search from the rounded-down class: a region of 16 would serve 17
-  pub rounded-up : Answering 32 6 (Take 16 ∷ Take 17 ∷ Take 16 ∷ []) (granted 0 0 ∷ refused 4 ∷ granted 16 1 ∷ [])
+  pub rounded-up : Answering 32 6 (takes 16 ∷ takes 17 ∷ takes 16 ∷ []) (granted 0 0 ∷ refused 4 ∷ granted 16 1 ∷ [])
   -- a reset begins anew, record numbers too
-  pub reset-anew : Answering 100 6 (Take 20 ∷ Take 30 ∷ HandBack 0 ∷ HandBack 1 ∷ Reset ∷ Take 50 ∷ SizeOf 0 ∷ SizeOf 1 ∷ [])
+  pub reset-anew : Answering 100 6 (takes 20 ∷ takes 30 ∷ hands-back 0 ∷ hands-back 1 ∷ Reset ∷ takes 50 ∷ asks-size 0 ∷ asks-size 1 ∷ [])
       (granted 0 0 ∷ granted 20 1 ∷ done ∷ done ∷ done ∷ granted 0 0 ∷ length-is 50 ∷ refused 5 ∷ [])
 
 -- ---- "Zero-length spans are ordinary regions"
 pub record ZeroLength : Type 0 where
   -- "two may share an offset"
-  pub one-offset : Answering 100 6 (Take 0 ∷ Take 0 ∷ []) (granted 0 0 ∷ granted 0 1 ∷ [])
+  pub one-offset : Answering 100 6 (takes 0 ∷ takes 0 ∷ []) (granted 0 0 ∷ granted 0 1 ∷ [])
   -- "a live one between two free regions keeps them from merging"
-  pub kept-apart : end by-class 100 6 (Take 20 ∷ Take 0 ∷ HandBack 0 ∷ []) (setup by-class 100 6) .line ≡ free 20 0 ∷ live 0 1 ∷ free 80 2 ∷ []
+  pub kept-apart : end (answer by-class 100 6) (takes 20 ∷ takes 0 ∷ hands-back 0 ∷ []) (setup by-class 100 6) .line ≡ free 20 0 ∷ live 0 1 ∷ free 80 2 ∷ []
 
 -- ---- numbers and figures, of each kind of call, answered and refused
 abbrev pub numberAndFigures : Event → ℕ × List ℕ
 numberAndFigures (event c a) = (refusalOf a, figuresOf c a)
 
 pub record FigureRows : Type 0 where
-  pub in-a-run : map numberAndFigures (log by-class 100 6
-      (Take 20 ∷ Take 30 ∷ Take 49 ∷ SizeOf 1 ∷ SizeOf 9 ∷ Report ∷ HandBack 1 ∷ HandBack 1 ∷ Reset ∷ []) (setup by-class 100 6))
+  pub in-a-run : map numberAndFigures (log (answer by-class 100 6)
+      (takes 20 ∷ takes 30 ∷ takes 49 ∷ asks-size 1 ∷ asks-size 9 ∷ Ask Report ∷ hands-back 1 ∷ hands-back 1 ∷ Reset ∷ []) (setup by-class 100 6))
       ≡ (0, 0 ∷ 0 ∷ []) ∷ (0, 20 ∷ 1 ∷ []) ∷ (4, 0 ∷ 0 ∷ []) ∷ (0, 30 ∷ []) ∷ (5, 0 ∷ []) ∷ (0, 50 ∷ 48 ∷ []) ∷ (0, []) ∷ (5, []) ∷ (0, []) ∷ []
   -- the rows of a full report, each a value and a number
   pub of-rows : inARow ((16, 3) ∷ (18, 5) ∷ []) ≡ 16 ∷ 3 ∷ 18 ∷ 5 ∷ []
@@ -118,20 +118,20 @@ pub record FigureRows : Type 0 where
 -- ---- demand 3 is not about nothing, and needs its 'last granted first'
 pub record StretchExamples : Type 0 where
   -- a stretch, with a refused take and a report in it
-  pub a-stretch : Stretch [] (log by-class 100 6 (Take 20 ∷ Take 30 ∷ Take 99 ∷ HandBack 1 ∷ Report ∷ HandBack 0 ∷ []) (setup by-class 100 6))
+  pub a-stretch : Stretch [] (log (answer by-class 100 6) (takes 20 ∷ takes 30 ∷ takes 99 ∷ hands-back 1 ∷ Ask Report ∷ hands-back 0 ∷ []) (setup by-class 100 6))
   -- a stretch with a take of 0 in it, each call that can be refused, with each number, and each question
-  pub all-kinds : Stretch [] (log by-class 100 4
-      (Take 0 ∷ SizeOf 0 ∷ HandBack 0
-      ∷ Take 20 ∷ Take 99 ∷ Take 30 ∷ Take 1 ∷ HandBack 2 ∷ SizeOf 9 ∷ Report ∷ FullReport ∷ HandBack 1 ∷ HandBack 0 ∷ [])
+  pub all-kinds : Stretch [] (log (answer by-class 100 4)
+      (takes 0 ∷ asks-size 0 ∷ hands-back 0
+      ∷ takes 20 ∷ takes 99 ∷ takes 30 ∷ takes 1 ∷ hands-back 2 ∷ asks-size 9 ∷ Ask Report ∷ Ask FullReport ∷ hands-back 1 ∷ hands-back 0 ∷ [])
       (setup by-class 100 4))
   -- and its answers
   pub all-kinds-answers : Answering 100 4
-      (Take 0 ∷ SizeOf 0 ∷ HandBack 0 ∷ Take 20 ∷ Take 99 ∷ Take 30 ∷ Take 1 ∷ HandBack 2 ∷ SizeOf 9 ∷ Report ∷ [])
+      (takes 0 ∷ asks-size 0 ∷ hands-back 0 ∷ takes 20 ∷ takes 99 ∷ takes 30 ∷ takes 1 ∷ hands-back 2 ∷ asks-size 9 ∷ Ask Report ∷ [])
       (granted 0 0 ∷ length-is 0 ∷ done
       ∷ granted 0 0 ∷ refused 4 ∷ granted 20 1 ∷ refused 3 ∷ refused 5 ∷ refused 5 ∷ reported 0 0 ∷ [])
   -- two spans handed back last granted first leave the ledger as it was; the later take has record 0
-  pub in-order : Answering 100 6 (Take 20 ∷ Take 30 ∷ HandBack 1 ∷ HandBack 0 ∷ Take 40 ∷ [])
+  pub in-order : Answering 100 6 (takes 20 ∷ takes 30 ∷ hands-back 1 ∷ hands-back 0 ∷ takes 40 ∷ [])
       (granted 0 0 ∷ granted 20 1 ∷ done ∷ done ∷ granted 0 0 ∷ [])
   -- handed back first granted first they do not: the later take has record 1
-  pub out-of-order : Answering 100 6 (Take 20 ∷ Take 30 ∷ HandBack 0 ∷ HandBack 1 ∷ Take 40 ∷ [])
+  pub out-of-order : Answering 100 6 (takes 20 ∷ takes 30 ∷ hands-back 0 ∷ hands-back 1 ∷ takes 40 ∷ [])
       (granted 0 0 ∷ granted 20 1 ∷ done ∷ done ∷ granted 0 1 ∷ [])

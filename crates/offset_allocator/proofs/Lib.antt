@@ -1,4 +1,3 @@
--- Shell: what the in-place call says of its totals and arrays, said of the head that is made of them.
--- Scratch: the scratch that a count needs.
-pub mod Shell
+-- Scratch: the scratch that a count needs. OneResult: any two results that a contract allows are the same values.
 pub mod Scratch
+pub mod OneResult

@@ -4,7 +4,7 @@ use mathlib.Core.List.{List}
 use Prim.Native.Nat.{ℕ, _≤_}
 use lib.ListN.{length}
 use Rattle.tables.specs.Words.{Words, Edition}
-use Rattle.tables.specs.Reach.{Room}
+use Rattle.tables.specs.Room.{Room}
 use Rattle.starting.specs.declared.lengths.Lengths.{Lengths}
 use Rattle.starting.specs.Lengths.{Needed}
 use Rattle.auditing.specs.Claims.{AuditRoom}

@@ -2,11 +2,12 @@
 ghost use Rattle.ledger.specs.Calls.{HandBack};
 ghost use Rattle.tables.specs.Calls.{edition32};
 ghost use Rattle.tables.specs.Promise.{Promise};
-ghost use Rattle.giving.specs.Answers.{answerOf};
+ghost use Rattle.answers.specs.Asked.{tokenOf};
+ghost use Rattle.answers.specs.Answers.{backSays};
 ghost use Rattle.offset_allocator.specs.HeadWords.{headWords};
 use crate::head::Head;
+use answers::BackAnswer;
 use answers::Handle;
-use giving::BackAnswer;
 
 pub struct Freed {
     pub answer: BackAnswer,
@@ -16,25 +17,29 @@ pub struct Freed {
 impl Head {
     // A span goes back, or why not.
     pub fn free(self, handle: Handle, nodes: &mut [u32], free_nodes: &mut [u32]) -> Freed
-        ensures { λ a. ⌜ Promise edition32 (HandBack (handle .0))
+        ensures { λ a. ⌜ Promise edition32 (HandBack (tokenOf handle))
             (headWords self (now (nodes .entry)) (now («free_nodes» .entry)))
             (headWords (a .head) (now (nodes .exit)) (now («free_nodes» .exit)))
-            (answerOf (a .answer)) ⌝ }
+            (backSays (a .answer)) ⌝ }
     {
         let mut bin_indices = self.bin_indices;
         let mut used_bins = self.used_bins;
-        let t = self.totals();
+        let t = self.totals;
         let returned = giving::free(
             t,
+            handle,
             &mut bin_indices,
             &mut used_bins,
             nodes,
             free_nodes,
-            handle,
         );
         let answer = returned.answer;
         let totals = returned.totals;
-        let head = Head::of(totals, used_bins, bin_indices);
+        let head = Head {
+            totals,
+            bin_indices,
+            used_bins,
+        };
         Freed { answer, head }
     }
 }

@@ -3,11 +3,11 @@ ghost use Rattle.ledger.specs.Calls.{Reset};
 ghost use Rattle.tables.specs.Setup.{tablesAlone};
 ghost use Rattle.tables.specs.Calls.{edition32};
 ghost use Rattle.tables.specs.Promise.{Promise, SetupPromise};
-ghost use Rattle.starting.specs.Answers.{answerOf};
+ghost use Rattle.answers.specs.Answers.{startSays};
 ghost use Rattle.offset_allocator.specs.HeadWords.{headWords};
 use crate::head::Head;
+use answers::StartAnswer;
 use small_float::Size;
-use starting::StartAnswer;
 
 pub struct SetUp {
     pub answer: StartAnswer,
@@ -24,7 +24,7 @@ impl Head {
     ) -> SetUp
         ensures { λ s. ⌜ SetupPromise edition32 (size .0) «max_allocs» (tablesAlone (now (nodes .entry)) (now («free_nodes» .entry)))
             (headWords (s .head) (now (nodes .exit)) (now («free_nodes» .exit)))
-            (answerOf (s .answer)) ⌝ }
+            (startSays (s .answer)) ⌝ }
     {
         let mut bin_indices = [0u32; 256];
         let mut used_bins = [0u8; 32];
@@ -38,7 +38,11 @@ impl Head {
         );
         let answer = started.answer;
         let totals = started.totals;
-        let head = Head::of(totals, used_bins, bin_indices);
+        let head = Head {
+            totals,
+            bin_indices,
+            used_bins,
+        };
         SetUp { answer, head }
     }
 
@@ -46,7 +50,7 @@ impl Head {
     pub fn new(size: Size, nodes: &mut [u32], free_nodes: &mut [u32]) -> SetUp
         ensures { λ s. ⌜ SetupPromise edition32 (size .0) 131072 (tablesAlone (now (nodes .entry)) (now («free_nodes» .entry)))
             (headWords (s .head) (now (nodes .exit)) (now («free_nodes» .exit)))
-            (answerOf (s .answer)) ⌝ }
+            (startSays (s .answer)) ⌝ }
     {
         Head::with_max_allocs(size, starting::DEFAULT_MAX_ALLOCS, nodes, free_nodes)
     }
@@ -56,15 +60,19 @@ impl Head {
         ensures { λ s. ⌜ Promise edition32 Reset
             (headWords self (now (nodes .entry)) (now («free_nodes» .entry)))
             (headWords (s .head) (now (nodes .exit)) (now («free_nodes» .exit)))
-            (answerOf (s .answer)) ⌝ }
+            (startSays (s .answer)) ⌝ }
     {
         let mut bin_indices = self.bin_indices;
         let mut used_bins = self.used_bins;
-        let t = self.totals();
+        let t = self.totals;
         let started = starting::reset(t, &mut bin_indices, &mut used_bins, nodes, free_nodes);
         let answer = started.answer;
         let totals = started.totals;
-        let head = Head::of(totals, used_bins, bin_indices);
+        let head = Head {
+            totals,
+            bin_indices,
+            used_bins,
+        };
         SetUp { answer, head }
     }
 }

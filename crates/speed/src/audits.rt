@@ -1,5 +1,5 @@
 // The audit beside a setup of the same size: 131,072 records, half of them with a live span.
-use auditing::AuditAnswer;
+use answers::AuditAnswer;
 use bins::totals::Totals;
 use small_float::Size;
 
@@ -55,7 +55,7 @@ fn take_spans(
     let mut i = 0u32;
     while i < SPANS {
         i += 1;
-        let taken = taking::allocate(t, bin_indices, used_bins, nodes, free_nodes, Size(LENGTH));
+        let taken = taking::allocate(t, Size(LENGTH), bin_indices, used_bins, nodes, free_nodes);
         t = taken.totals;
     }
     t

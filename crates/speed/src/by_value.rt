@@ -2,9 +2,9 @@
 use crate::held;
 use crate::progress;
 use crate::progress::Draws;
+use answers::TakeAnswer;
 use offset_allocator::head::Head;
 use small_float::Size;
-use taking::TakeAnswer;
 
 struct State {
     head: Head,

@@ -2,9 +2,9 @@
 use crate::held;
 use crate::progress;
 use crate::progress::Draws;
+use answers::TakeAnswer;
 use bins::totals::Totals;
 use small_float::Size;
-use taking::TakeAnswer;
 
 struct State {
     totals: Totals,
@@ -22,11 +22,11 @@ fn take(
 ) -> State {
     let taken = taking::allocate(
         t,
+        Size(drawn.size()),
         bin_indices,
         used_bins,
         nodes,
         free_nodes,
-        Size(drawn.size()),
     );
     let totals = taken.totals;
     let answer = taken.answer;
@@ -60,7 +60,7 @@ fn give(
         };
     }
     let handle = held::swap_remove(out, drawn.held, drawn.place());
-    let returned = giving::free(t, bin_indices, used_bins, nodes, free_nodes, handle);
+    let returned = giving::free(t, handle, bin_indices, used_bins, nodes, free_nodes);
     let totals = returned.totals;
     let draws = drawn.gone_back();
     State { totals, draws }

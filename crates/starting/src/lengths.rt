@@ -1,5 +1,7 @@
 // How long the lent tables must be for a count of records.
-ghost use Rattle.starting.specs.Lengths.{Needed};
+ghost use Rattle.starting.specs.Lengths.{LengthsFor};
+use answers::Refusal;
+use bins::gate;
 
 pub struct Lengths {
     pub nodes: usize,
@@ -7,17 +9,29 @@ pub struct Lengths {
     pub scratch: usize,
 }
 
+// Refused is a count that setup refuses, with its number.
+pub enum LengthsAnswer {
+    Needed(Lengths),
+    Refused(Refusal),
+}
+
 // Words of the audit's scratch to a record.
 pub const SCRATCH_WORDS_PER_RECORD: usize = 1;
 
 // The lengths in words; a call refuses a table that is shorter, and neither reads nor writes beyond them.
-pub fn table_lengths(max_allocs: u32) -> Lengths
-    ensures { λ l. ⌜ Needed «max_allocs» l ⌝ }
+pub fn table_lengths(max_allocs: u32) -> LengthsAnswer
+    ensures { λ a. ⌜ LengthsFor «max_allocs» a ⌝ }
 {
+    if max_allocs < 2 {
+        return LengthsAnswer::Refused(Refusal::BadCount);
+    }
+    if gate::MAX_RECORDS < max_allocs {
+        return LengthsAnswer::Refused(Refusal::BadCount);
+    }
     let n = max_allocs as usize;
-    Lengths {
+    LengthsAnswer::Needed(Lengths {
         nodes: tables::WORDS_PER_RECORD * n,
         free_nodes: tables::PILE_WORDS_PER_RECORD * n,
         scratch: SCRATCH_WORDS_PER_RECORD * n,
-    }
+    })
 }

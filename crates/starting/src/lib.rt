@@ -11,8 +11,10 @@ ghost use Rattle.tables.specs.Calls.{edition32};
 ghost use Rattle.tables.specs.Promise.{Promise, SetupPromise};
 ghost use Rattle.answers.specs.Refusals.{numberOf};
 ghost use Rattle.bins.specs.InWords.{wordsOf, bound, HasRoom};
-ghost use Rattle.starting.specs.Answers.{answerOf, outcomeOf};
+ghost use Rattle.answers.specs.Answers.{startSays};
+ghost use Rattle.starting.specs.Answers.{outcomeOf};
 use answers::Refusal;
+use answers::StartAnswer;
 use bins::gate::Gate;
 use bins::nodes::NONE;
 use bins::totals::Totals;
@@ -20,11 +22,6 @@ use small_float::Size;
 
 mod fill;
 pub mod lengths;
-
-pub enum StartAnswer {
-    Done,
-    Refused(Refusal),
-}
 
 pub struct Started {
     pub answer: StartAnswer,
@@ -120,7 +117,7 @@ pub fn with_max_allocs(
     ensures { λ s. ⌜ SetupPromise edition32 (size .0) «max_allocs»
         (lentOf (now («bin_indices» .entry)) (now («used_bins» .entry)) (now (nodes .entry)) (now («free_nodes» .entry)))
         (wordsOf (s .totals) (now («bin_indices» .exit)) (now («used_bins» .exit)) (now (nodes .exit)) (now («free_nodes» .exit)))
-        (answerOf (s .answer)) ⌝ }
+        (startSays (s .answer)) ⌝ }
 {
     let units = units_of(size);
     match bins::gate::test(max_allocs, nodes, free_nodes, Refusal::BadCount) {
@@ -143,7 +140,7 @@ pub fn new(
     ensures { λ s. ⌜ SetupPromise edition32 (size .0) 131072
         (lentOf (now («bin_indices» .entry)) (now («used_bins» .entry)) (now (nodes .entry)) (now («free_nodes» .entry)))
         (wordsOf (s .totals) (now («bin_indices» .exit)) (now («used_bins» .exit)) (now (nodes .exit)) (now («free_nodes» .exit)))
-        (answerOf (s .answer)) ⌝ }
+        (startSays (s .answer)) ⌝ }
 {
     with_max_allocs(
         size,
@@ -166,7 +163,7 @@ pub fn reset(
     ensures { λ s. ⌜ Promise edition32 Reset
         (wordsOf t (now («bin_indices» .entry)) (now («used_bins» .entry)) (now (nodes .entry)) (now («free_nodes» .entry)))
         (wordsOf (s .totals) (now («bin_indices» .exit)) (now («used_bins» .exit)) (now (nodes .exit)) (now («free_nodes» .exit)))
-        (answerOf (s .answer)) ⌝ }
+        (startSays (s .answer)) ⌝ }
 {
     match bins::gate::test(t.max_allocs, nodes, free_nodes, Refusal::Unsound) {
         Gate::Shut(why) => Started {

@@ -1,6 +1,6 @@
 -- A step takes words that agree, as far as n records need, to words that agree. Assumes nothing.
 use mathlib.Core.Path.{_≡_, refl, sym, subst, _∙_}
-use mathlib.Core.Bool.{Bool, true, false}
+use mathlib.Core.Bool.{Bool, true, false, cond}
 use mathlib.Core.List.{List}
 use Prim.Native.Nat.{ℕ, zero, suc, _+_, _*_, _-_, _≤_, _<_}
 use native.Mathlib.Omega.{arith}
@@ -10,7 +10,7 @@ use lib.Seq.{getD-set-same, getD-set-other}
 use Rattle.basics.specs.Sum.{one}
 use Rattle.basics.proofs.Decided.{Same, same, differ, same?}
 use Rattle.small_float.specs.Class.{down}
-use Rattle.tables.specs.Layout.{pick, dataSize, binPrev, binNext, used, word, put, putLink, nodesNeeded, pileNeeded}
+use Rattle.tables.specs.Layout.{dataSize, binPrev, binNext, used, word, put, putLink, nodesNeeded, pileNeeded}
 use Rattle.tables.specs.Words.{Words, Bounds, withNodes, withTables, withTotal}
 use Rattle.tables.specs.Steps.{insertNodes, joinNodes, insertAt, insert, unlinkAt, unlink, pushPile, popPile}
 use Rattle.tables.specs.Setup.{wiped, piled}
@@ -39,7 +39,7 @@ module _ (k : ℕ) where
   unfolding putLink
   putLink-agree n r f v {a} {b} A = at (ltb r n)
     where
-      at : (t : Bool) → AgreeOn k (pick t (put r f v a) a) (pick t (put r f v b) b)
+      at : (t : Bool) → AgreeOn k (cond t (put r f v a) a) (cond t (put r f v b) b)
       at true = put-agree r f v A
       at false = A
 
@@ -51,33 +51,10 @@ word-agree n A f r f8 l = A .same (8 * r + f) (omega arith)
 -- ---- words: those that agree with w are w with other tables, so that all that is read of the head is the same by computation
 pub tables-agree : (n : ℕ) (w : Words) {nodes pile : List ℕ} → AgreeOn (nodesNeeded n) (w .nodes) nodes
     → AgreeOn (pileNeeded n) (w .pile) pile → Agree n w (withTables w nodes pile)
-tables-agree n w N P = record {
-  size-is = refl;
-  count-is = refl;
-  total-is = refl;
-  off-is = refl;
-  top-is = refl;
-  leaves-is = refl;
-  heads-is = refl;
-  nodes-is = N;
-  pile-is = P;
-}
+tables-agree n w N P = record { one-head = refl; nodes-is = N; pile-is = P }
 
 pub by-tables : (n : ℕ) {w v : Words} → Agree n w v → (P : Words → Type 0) → P (withTables w (v .nodes) (v .pile)) → P v
-by-tables n {w} {v} A P p = subst P same-head p
-  where
-    same-head : withTables w (v .nodes) (v .pile) ≡ v
-    same-head = λ i. record {
-      size = A .size-is i;
-      count = A .count-is i;
-      total = A .total-is i;
-      off = A .off-is i;
-      top = A .top-is i;
-      leaves = A .leaves-is i;
-      heads = A .heads-is i;
-      nodes = v .nodes;
-      pile = v .pile;
-    }
+by-tables n A P p = subst P (A .one-head) p
 
 -- ---- the steps
 module _ (n : ℕ) {w v : Words} (A : Agree n w v) where

@@ -1,14 +1,15 @@
 -- The rows of specs/Examples.antt, computed. Assumes nothing.
 use mathlib.Core.Path.{refl}
+use Rattle.ledger.specs.Calls.{answers, end}
 use lib.Count.{leadingZeros, trailingZeros}
 use Rattle.small_float.specs.Class.{up, value}
 use Rattle.tables.specs.Layout.{word, put, putLink}
 use Rattle.tables.specs.Steps.{insertNodes, joinNodes, insertAt, insert, unlinkAt, unlink, pushPile, popPile}
-use Rattle.tables.specs.Calls.{answerWords, endWords, answersWords}
+use Rattle.tables.specs.Calls.{answerWords}
 use Rattle.tables.specs.Examples.{desk, reporting, withReports, RunOnWords, TwoTakes, NearlyRight, spoiled, Spoiled}
 
 pub nearly-right : NearlyRight
-unfolding answersWords desk up value word put putLink insert insertAt insertNodes joinNodes unlink unlinkAt pushPile popPile
+unfolding answerWords answers desk up value word put putLink insert insertAt insertNodes joinNodes unlink unlinkAt pushPile popPile
     leadingZeros trailingZeros
 nearly-right = record {
   next-top-bin = refl;
@@ -20,12 +21,12 @@ nearly-right = record {
 }
 
 pub run-on-words : RunOnWords
-unfolding answersWords endWords desk reporting withReports up value word put putLink insert insertAt insertNodes joinNodes unlink unlinkAt
+unfolding answerWords answers end desk reporting withReports up value word put putLink insert insertAt insertNodes joinNodes unlink unlinkAt
     pushPile popPile leadingZeros trailingZeros
 run-on-words = record { the-run = refl; then-reset = refl }
 
 pub two-takes : TwoTakes
-unfolding endWords desk up word put putLink insert insertAt insertNodes joinNodes unlinkAt popPile trailingZeros
+unfolding answerWords end desk up word put putLink insert insertAt insertNodes joinNodes unlinkAt popPile trailingZeros
 two-takes = record {
   size-is = refl;
   count-is = refl;

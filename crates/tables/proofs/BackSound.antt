@@ -23,7 +23,7 @@ use Rattle.ledger.proofs.ByClass.{class-laws}
 use Rattle.tables.specs.Layout.{neighborPrev, neighborNext, word}
 use Rattle.tables.specs.Words.{Words, Edition, bounds}
 use Rattle.tables.specs.Steps.{insertAt, insert, unlinkAt, unlink, pushPile}
-use Rattle.tables.specs.HandBack.{Merged, BackPlan, stop, mergedOf, planMerged, planBack, dropIf, merging, doBack, backWords}
+use Rattle.tables.specs.HandBack.{Merged, BackPlan, stop, mergedOf, planMerged, planBack, dropIf, merging, doBack}
 use Rattle.tables.specs.Linked.{first, recs, Reads}
 use Rattle.tables.specs.Sound.{Sound}
 use Rattle.tables.proofs.Linked.{last, linked-split}
@@ -49,7 +49,7 @@ module _ (E : Edition) (w : Words) (l : Ledger Stacks) (S : Sound E w l) (r : �
   module _ (n : ℕ) (before after : List Region) (place : Between before (live n r) after (l .line)) where
     -- ---- the two sides
     reads : Reads (w .nodes) 0 (reverse before) × Reads (w .nodes) (0 + tally len (reverse before)) (live n r ∷ after)
-    reads = reads-at (w .nodes) place (S .reads)
+    reads = reads-at (w .nodes) place (S .line .reads)
 
     st : Standing (bounds E w) w (reverse before ++ live n r ∷ after) (l .index) (l .pile)
     st = subst (λ (line : List Region). Standing (bounds E w) w line (l .index) (l .pile))
@@ -147,7 +147,7 @@ module _ (E : Edition) (w : Words) (l : Ledger Stacks) (S : Sound E w l) (r : �
       next-sum f = tally-reverseAux f (b-side .rest) (free whole r ∷ a-side .rest)
 
       total-is : w .total + n ≡ tally freeLen (merge by-class before n r after l .line)
-      total-is = omega (arith, S .sum, sum-at place freeLen, next-sum freeLen, side-free before (l .index), side-free after (b-side .index))
+      total-is = omega (arith, S .total, sum-at place freeLen, next-sum freeLen, side-free before (l .index), side-free after (b-side .index))
 
       whole-most : whole ≤ w .size
       whole-most = omega (arith, next-well .lined .cover, next-sum len)
@@ -158,7 +158,7 @@ module _ (E : Edition) (w : Words) (l : Ledger Stacks) (S : Sound E w l) (r : �
       off-below : w .off + one (opens before) + one (opens after) < w .count
       off-below = unfold merge in omega (
         arith,
-        S .spares,
+        S .spare .spares,
         all-records (next-well .lined),
         next-well .lined .some-region,
         length-append (a-side .owed) (b-side .owed ++ l .pile),
@@ -200,18 +200,19 @@ module _ (E : Edition) (w : Words) (l : Ledger Stacks) (S : Sound E w l) (r : �
           (merge by-class before n r after l) (w .size) (w .count)
           (unfold insert insertAt in drop-size (opens after) x v ∙ drop-size (opens before) p w)
           (unfold insert insertAt in drop-count (opens after) x v ∙ drop-count (opens before) p w)
-          (S .count-low) (S .count-high) (S .size-fits) next-well
+          (S .room .tables .count-low) (S .room .tables .count-high) (S .room .of-head .size-fits) next-well
           (rw (reverseAux-eq (b-side .rest) (free whole r ∷ a-side .rest))
           (placed (bounds E w) u (reverse (b-side .rest)) (a-side .rest) (a-side .index)
           (a-side .owed ++ (b-side .owed ++ l .pile))
           r whole (merged .start) (merged .before) (merged .after) (A .gap-is)
-          (omega (arith, down-most whole (omega (arith, whole-most, S .size-fits)))) refl refl refl))
+          (omega (arith, down-most whole (omega (arith, whole-most, S .room .of-head .size-fits, E .fits)))) refl refl refl))
           total-is
 
   -- ---- the call
-  pub back-sound : (backWords E w r .0 ≡ handBack by-class r l .0) × Sound E (backWords E w r .1) (handBack by-class r l .1)
-  unfolding backWords doBack
-  back-sound = rw (passes E w l S (doBack E w r (planBack w r))) (go (live-case by-class (S .well) r))
+  pub back-sound : (doBack E w r (planBack w r) .0 ≡ handBack by-class r l .0)
+      × Sound E (doBack E w r (planBack w r) .1) (handBack by-class r l .1)
+  unfolding doBack
+  back-sound = go (live-case by-class (S .well) r)
     where
       go : LiveCase by-class r l
           → (doBack E w r (planBack w r) .0 ≡ handBack by-class r l .0) × Sound E (doBack E w r (planBack w r) .1) (handBack by-class r l .1)

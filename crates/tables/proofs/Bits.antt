@@ -1,4 +1,5 @@
 -- The two levels of bits follow the stacks: where no class is filled or emptied, where one is filled, where one is emptied. Assumes nothing.
+use mathlib.Core.Bool.{cond}
 use mathlib.Core.Path.{_≡_, ap, sym, _∙_}
 use mathlib.Core.Logic.{_≢_}
 use mathlib.Core.List.{List}
@@ -8,7 +9,6 @@ use lib.Dec.{eqb}
 use lib.ListN.{length, getD, set, length-set}
 use lib.Seq.{getD-set-same, getD-set-other}
 use Rattle.basics.proofs.Decided.{Same, same, differ, same?}
-use Rattle.tables.specs.Layout.{pick}
 use Rattle.tables.specs.Steps.{setBit, clearBit}
 use Rattle.tables.specs.Linked.{mask, full, nonZero}
 use Rattle.tables.proofs.Masks.{full-bit, nonZero-bit, nonZero-some, nonZero-none, nonZero-zero}
@@ -98,8 +98,8 @@ module _ (leaves : List ℕ) (top : ℕ) (stacks : ℕ → List ℕ) (B : Bits l
     -- the byte's bit in the top word is cleared where the byte falls to 0
     pub bits-emptied : full (stacks c) ≡ 1 → full (stacks′ c) ≡ 0
         → Bits (set leaves (c / 8) (clearBit 8 (getD leaves (c / 8) 0) (c % 8)))
-        (pick (eqb (clearBit 8 (getD leaves (c / 8) 0) (c % 8)) 0) (clearBit 32 top (c / 8)) top) stacks′
-    bits-emptied was e = byte-set m m-is (pick (eqb m 0) (clearBit 32 top (c / 8)) top) (go (same? m 0))
+        (cond (eqb (clearBit 8 (getD leaves (c / 8) 0) (c % 8)) 0) (clearBit 32 top (c / 8)) top) stacks′
+    bits-emptied was e = byte-set m m-is (cond (eqb m 0) (clearBit 32 top (c / 8)) top) (go (same? m 0))
       where
         m : ℕ
         m = clearBit 8 (getD leaves (c / 8) 0) (c % 8)
@@ -119,7 +119,7 @@ module _ (leaves : List ℕ) (top : ℕ) (stacks : ℕ → List ℕ) (B : Bits l
         kept : (t : ℕ) → t ≢ c / 8 → new t ≡ old t
         kept t d = ap nonZero (at-other m m-is t d)
 
-        go : Same m 0 → pick (eqb m 0) (clearBit 32 top (c / 8)) top ≡ mask 32 new
+        go : Same m 0 → cond (eqb m 0) (clearBit 32 top (c / 8)) top ≡ mask 32 new
         go (same z q) = rw q
             (ap (λ (x : ℕ). clearBit 32 x (c / 8)) (B .top-bits)
             ∙ mask-cleared 32 (c / 8) old new t-low (λ t. nonZero-bit (getD leaves t 0))

@@ -9,15 +9,14 @@ use borrow.Author.Tests.{lt-ltb}
 use Rattle.basics.proofs.Clash.{clash}
 use Rattle.basics.proofs.Decided.{Below, below, beyond, below?}
 use Rattle.ledger.specs.Ledger.{Answer, refused}
-use Rattle.ledger.specs.Calls.{FullReport}
+use Rattle.ledger.specs.Calls.{FullReport, Ask}
 use Rattle.tables.specs.Layout.{binNext, word}
 use Rattle.tables.specs.Words.{Words, Edition}
-use Rattle.tables.specs.Gate.{gateOf}
-use Rattle.tables.specs.Questions.{Walked, steps, lost, listLength, Counts, counts, circular, noted, countFrom, fullAnswer}
-use Rattle.tables.specs.Calls.{answerWords}
-use Rattle.tables.specs.Reach.{Room}
+use Rattle.tables.specs.Questions.{Walked, steps, lost, listLength, Counts, counts, circular, noted, countFrom, fullAnswer, fullReportOf}
+use Rattle.tables.specs.Calls.{toldBy, behind, answerWords}
+use Rattle.tables.specs.Room.{Room}
 use Rattle.tables.specs.Claims.{along, Circular}
-use Rattle.tables.proofs.Gate.{room-opens-gate, gated-open}
+use Rattle.tables.proofs.Gate.{call-open}
 
 -- the walk that meets a record at every step is lost
 walk-lost : (fuel : ℕ) (nodes : List ℕ) (count a n : ℕ) → ((k : ℕ) → k ≤ fuel → along nodes a k < count)
@@ -45,11 +44,11 @@ module _ (w : Words) (c : ℕ) (around : listLength (w .count) (w .nodes) (w .co
           not-here q = let z : _≡_ {A = ℕ} 0 1 = cc in omega arith
 
 pub circular-6 : (E : Edition) (w : Words) (c : ℕ) → c < 256 → Circular w c → Room E (w .count) (length (w .nodes)) (length (w .pile))
-    → answerWords E FullReport w .0 ≡ refused 6
-unfolding answerWords
+    → answerWords E (Ask FullReport) w .0 ≡ refused 6
+unfolding behind
 circular-6 E w c l h room =
-    ap (λ (o : Answer × Words). o .0) (gated-open (gateOf E w) w _ (room-opens-gate E w room))
-    ∙ (unfold fullAnswer in ap fullAnswer (counting-ends w c around 256 0 (replicate 256 0) (omega arith) (omega arith)))
+    ap (λ (o : Answer × Words). o .0) (call-open E (Ask FullReport) w room)
+    ∙ (unfold toldBy fullReportOf fullAnswer in ap fullAnswer (counting-ends w c around 256 0 (replicate 256 0) (omega arith) (omega arith)))
   where
     around : listLength (w .count) (w .nodes) (w .count) (getD (w .heads) c 0) 0 ≡ lost
     around = walk-lost (w .count) (w .nodes) (w .count) (getD (w .heads) c 0) 0 h
@@ -96,11 +95,11 @@ told-circular (counts l) e = clash (cc)
 told-circular circular e = refl
 
 pub circular-exactly : (E : Edition) (w : Words) → Room E (w .count) (length (w .nodes)) (length (w .pile))
-    → (answerWords E FullReport w .0 ≡ refused 6) ↔ ((c : ℕ) × (c < 256) × Circular w c)
+    → (answerWords E (Ask FullReport) w .0 ≡ refused 6) ↔ ((c : ℕ) × (c < 256) × Circular w c)
 circular-exactly E w room = (λ e. tells (rw (opens) at e), λ x. circular-6 E w (x .0) (x .1) (x .2) room)
   where
-    opens : answerWords E FullReport w .0 ≡ fullAnswer (countFrom 256 w 0 (replicate 256 0))
-    opens = unfold answerWords in ap (λ (o : Answer × Words). o .0) (gated-open (gateOf E w) w _ (room-opens-gate E w room))
+    opens : answerWords E (Ask FullReport) w .0 ≡ fullAnswer (countFrom 256 w 0 (replicate 256 0))
+    opens = unfold behind toldBy fullReportOf in ap (λ (o : Answer × Words). o .0) (call-open E (Ask FullReport) w room)
 
     tells : fullAnswer (countFrom 256 w 0 (replicate 256 0)) ≡ refused 6 → (c : ℕ) × (c < 256) × Circular w c
     tells e =

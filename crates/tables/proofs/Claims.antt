@@ -1,8 +1,8 @@
 -- All that specs/Claims.antt claims of the words, for every edition. Assumes nothing.
 use Rattle.tables.specs.Words.{Edition}
 use Rattle.tables.specs.Claims.{Claims}
-use Rattle.tables.proofs.Refusals.{setup-1, setup-2, setup-done, setup-refused, call-6, call-2, not-2}
-use Rattle.tables.proofs.Refusals.{take-3, back-5, size-5, numbers, setup-numbers}
+use Rattle.tables.proofs.Refusals.{setup-1, setup-10, setup-2, setup-done, setup-refused, call-6, call-2, not-2}
+use Rattle.tables.proofs.Refusals.{take-3, back-5, size-5, numbers, numbers-behind, setup-numbers}
 use Rattle.tables.proofs.Kept.{refused-kept, grant-inside}
 use Rattle.tables.proofs.NotWritten.{not-written}
 use Rattle.tables.proofs.SetupLeaves.{setup-leaves, setup-pile-leaves, setup-lengths, reset-leaves}
@@ -12,11 +12,12 @@ use Rattle.tables.proofs.Circular.{circular-6, circular-exactly}
 use Rattle.tables.proofs.Search.{search-finds, highest-found}
 use Rattle.tables.proofs.SetupSound.{setup-sound, reset-sound}
 use Rattle.tables.proofs.OneLedger.{one-ledger}
-use Rattle.tables.proofs.Runs.{call-sound, never-6, alike, demand-2, log-calls, log-answers, demand-3}
+use Rattle.tables.proofs.Runs.{call-sound, never-6, alike, demand-2, demand-3}
 
 pub claims : (E : Edition) → Claims E
 claims E = record {
   setup-1 = setup-1 E;
+  setup-10 = setup-10 E;
   setup-2 = setup-2 E;
   setup-done = setup-done E;
   setup-refused = setup-refused E;
@@ -35,6 +36,7 @@ claims E = record {
   back-5 = back-5 E;
   size-5 = size-5 E;
   numbers = numbers E;
+  numbers-behind = numbers-behind E;
   setup-numbers = setup-numbers E;
   call-sound = call-sound E;
   never-6 = never-6 E;
@@ -50,7 +52,5 @@ claims E = record {
   search-finds = search-finds E;
   highest-found = highest-found E;
   demand-2 = demand-2 E;
-  log-calls = log-calls E;
-  log-answers = log-answers E;
   demand-3 = demand-3 E;
 }

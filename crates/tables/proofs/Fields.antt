@@ -2,7 +2,7 @@
 -- Side conditions that compute are stated as tests, so that `simp fields` closes them by itself.
 use mathlib.Core.Path.{_≡_, refl}
 use mathlib.Core.Logic.{_≢_}
-use mathlib.Core.Bool.{Bool, true, false}
+use mathlib.Core.Bool.{Bool, true, false, cond}
 use mathlib.Core.List.{List}
 use Prim.Native.Nat.{ℕ, _+_, _*_, _≤_, _<_}
 use native.Mathlib.Omega.{arith}
@@ -10,7 +10,7 @@ use lib.Dec.{ltb, leb, eqb}
 use lib.ListN.{length, length-set}
 use lib.Seq.{getD-set-same, getD-set-other}
 use borrow.Author.Tests.{ltb-true, leb-true, le-leb, eqb-false}
-use Rattle.tables.specs.Layout.{pick, word, put, putLink, nodesNeeded}
+use Rattle.tables.specs.Layout.{word, put, putLink, nodesNeeded}
 
 -- record r stands in the table, as a test
 unfoldable pub fits : List ℕ → ℕ → Bool
@@ -29,7 +29,7 @@ pub length-putLink : (count r k v : ℕ) (nodes : List ℕ) → length (putLink 
 unfolding putLink
 length-putLink count r k v nodes = go (ltb r count)
   where
-    go : (b : Bool) → length (pick b (put r k v nodes) nodes) ≡ length nodes
+    go : (b : Bool) → length (cond b (put r k v nodes) nodes) ≡ length nodes
     go true = length-put r k v nodes
     go false = refl
 
@@ -63,7 +63,7 @@ module _ (count : ℕ) where
   unfolding putLink
   word-putLink-field nodes r k v s j a b c = go (ltb r count)
     where
-      go : (t : Bool) → word (pick t (put r k v nodes) nodes) j s ≡ word nodes j s
+      go : (t : Bool) → word (cond t (put r k v nodes) nodes) j s ≡ word nodes j s
       go true = word-put-field nodes r k v s j a b c
       go false = refl
 
@@ -72,7 +72,7 @@ module _ (count : ℕ) where
   unfolding putLink
   word-putLink-rec nodes r k v s j a b c = go (ltb r count)
     where
-      go : (t : Bool) → word (pick t (put r k v nodes) nodes) j s ≡ word nodes j s
+      go : (t : Bool) → word (cond t (put r k v nodes) nodes) j s ≡ word nodes j s
       go true = word-put-rec nodes r k v s j a b c
       go false = refl
 

@@ -14,7 +14,7 @@ use Rattle.basics.proofs.Pigeons.{pigeons}
 use Rattle.small_float.specs.Class.{shownValue}
 use Rattle.ledger.specs.Ledger.{Ledger, classes, fullOf, fullAt, numbersFrom, Stacks}
 use Rattle.tables.specs.Words.{Words, Edition, bounds}
-use Rattle.tables.specs.Questions.{steps, listLength, counts, noted, countFrom, fullAnswer, fullWords}
+use Rattle.tables.specs.Questions.{steps, listLength, counts, noted, countFrom, fullAnswer}
 use Rattle.tables.specs.Linked.{first}
 use Rattle.tables.specs.Sound.{Sound}
 use Rattle.tables.proofs.Shelf.{Bin, in-below, in-distinct}
@@ -37,8 +37,8 @@ module _ (E : Edition) (w : Words) (l : Ledger Stacks) (S : Sound E w l) where
   list-length c h =
       let below-count = in-below (bounds E w) w (l .index) (l .pile) (shelf-of E w l S) c in
       let few = pigeons (w .count) (l .index c) below-count (in-distinct (bounds E w) w (l .index) (l .pile) (shelf-of E w l S) c) in
-      ap (λ (a : ℕ). listLength (w .count) (w .nodes) (w .count) a 0) (S .tops c h)
-      ∙ walked (l .index c) (w .count) (E .none) 0 few below-count (S .lists c)
+      ap (λ (a : ℕ). listLength (w .count) (w .nodes) (w .count) a 0) (S .lists .tops c h)
+      ∙ walked (l .index c) (w .count) (E .none) 0 few below-count (S .lists .lists c)
       ∙ ap steps (zero-add (length (l .index c)))
 
   -- the lengths of the k stacks from c on, written over so-far
@@ -75,7 +75,7 @@ module _ (E : Edition) (w : Words) (l : Ledger Stacks) (S : Sound E w l) where
   map-numbers f g zero r h = refl
   map-numbers f g (suc n) r h = ap₂ {C = List (ℕ × ℕ)} _∷_ (h r (omega arith)) (map-numbers f g n (suc r) (λ c k. h c (omega arith)))
 
-  full-is : fullAnswer (countFrom 256 w 0 (replicate 256 0)) ≡ classes (fullOf (l .index))
+  pub full-is : fullAnswer (countFrom 256 w 0 (replicate 256 0)) ≡ classes (fullOf (l .index))
   full-is =
       ap fullAnswer (counted 256 0 (replicate 256 0) refl)
       ∙ unfold fullAnswer fullOf in
@@ -83,7 +83,3 @@ module _ (E : Edition) (w : Words) (l : Ledger Stacks) (S : Sound E w l) where
     where
       row : (c : ℕ) → c < 0 + 256 → (shownValue c, getD (lengths 256 0 (replicate 256 0)) c 0) ≡ fullAt (l .index) c
       row c h = unfold fullAt in λ i. (shownValue c, length-at 256 0 (replicate 256 0) c (length-replicate {A = ℕ} 256 0) (omega arith) h i)
-
-  pub full-sound : (fullWords E w .0 ≡ classes (fullOf (l .index))) × Sound E (fullWords E w .1) l
-  unfolding fullWords
-  full-sound = rw (passes E w l S (fullAnswer (countFrom 256 w 0 (replicate 256 0)), w)) (full-is, S)

@@ -1,18 +1,19 @@
 -- The gate, exactly: `bad` for a count out of its limits, then 2 for a table too short, otherwise open. Assumes nothing.
-use mathlib.Core.Path.{_≡_, refl}
+use mathlib.Core.Path.{_≡_, refl, _∙_}
 use mathlib.Core.Logic.{_⊎_, inl, inr}
-use Prim.Native.Nat.{ℕ, zero, suc, _<_}
+use Prim.Native.Nat.{ℕ, zero, suc, _<_, _≤_}
 use native.Mathlib.Omega.{arith}
 use lib.ListN.{length}
+use borrow.Author.Tests.{le-ltb}
 use Rattle.basics.proofs.Decided.{Below, below, beyond, below?}
 use Rattle.ledger.specs.Ledger.{Answer, refused}
-use Rattle.ledger.specs.Calls.{Call, Take, HandBack, SizeOf, Report, FullReport, Reset}
+use Rattle.ledger.specs.Calls.{Call}
 use Rattle.tables.specs.Layout.{nodesNeeded, pileNeeded}
 use Rattle.tables.specs.Words.{Words, Edition}
-use Rattle.tables.specs.Gate.{gate, gateOf, gated}
-use Rattle.tables.specs.Calls.{answerWords}
-use Rattle.tables.specs.Reach.{Room}
-use Rattle.tables.specs.Claims.{BadCount, TooShort}
+use Rattle.tables.specs.Gate.{gate, setupGate, gateOf, gated}
+use Rattle.tables.specs.Calls.{behind, answerWords}
+use Rattle.tables.specs.Room.{Room}
+use Rattle.tables.specs.Claims.{BadCount, TooShort, TooLarge}
 
 -- ---- what the gate says of a count and two lengths
 pub data Gated (E : Edition) (bad count nodes pile : ℕ) : Type 0 where
@@ -50,6 +51,10 @@ pub short-not-bad : (E : Edition) (count nodes pile : ℕ) → TooShort E count 
 short-not-bad E count nodes pile s (inl h) = omega (arith, s .0 .0)
 short-not-bad E count nodes pile s (inr h) = omega (arith, s .0 .1)
 
+pub large-not-bad : (E : Edition) (size count : ℕ) → TooLarge E size count → BadCount E count → ⊥
+large-not-bad E size count s (inl h) = omega (arith, s .0 .0)
+large-not-bad E size count s (inr h) = omega (arith, s .0 .1)
+
 -- ---- the two laws that callers use
 pub room-opens : (E : Edition) (bad count nodes pile : ℕ) → Room E count nodes pile → gate E bad count nodes pile ≡ 0
 room-opens E bad count nodes pile r = elim (gated? E bad count nodes pile) [
@@ -74,13 +79,49 @@ pub gate-has-room : (E : Edition) (w : Words) → gateOf E w ≡ 0 → Room E (w
 unfolding gateOf
 gate-has-room E w e = open-has-room E 5 (w .count) (length (w .nodes)) (length (w .pile)) e
 
+-- ---- the gate of a setup
+pub data SetupCase (E : Edition) (size count nodes pile : ℕ) : Type 0 where
+  count-bad : BadCount E count → setupGate E size count nodes pile ≡ 1 → SetupCase E size count nodes pile
+  too-large : TooLarge E size count → setupGate E size count nodes pile ≡ 10 → SetupCase E size count nodes pile
+  table-short : size ≤ E .greatest → TooShort E count nodes pile → setupGate E size count nodes pile ≡ 2 → SetupCase E size count nodes pile
+  accepted : size ≤ E .greatest → Room E count nodes pile → setupGate E size count nodes pile ≡ 0 → SetupCase E size count nodes pile
+
+-- of a size that the edition has, it is the gate of a call, but that a bad count is 1
+pub sizes-pass : (E : Edition) (size count nodes pile : ℕ) → size ≤ E .greatest → setupGate E size count nodes pile ≡ gate E 1 count nodes pile
+unfolding gate setupGate
+sizes-pass E size count nodes pile h = rw (le-ltb (E .greatest) size h) refl
+
+pub setup-case : (E : Edition) (size count nodes pile : ℕ) → SetupCase E size count nodes pile
+setup-case E size count nodes pile = by-size (below? (E .greatest) size)
+  where
+    by-size : Below (E .greatest) size → SetupCase E size count nodes pile
+    by-size (beyond h e) = elim (gated? E 1 count nodes pile) [
+      | bad-count b g ↦ count-bad b (sizes-pass E size count nodes pile h ∙ g)
+      | too-short b g ↦ table-short h b (sizes-pass E size count nodes pile h ∙ g)
+      | open-gate b g ↦ accepted h b (sizes-pass E size count nodes pile h ∙ g)
+    ]
+    by-size (below h e) = by-count (below? count 2) (below? (E .limit) count)
+      where
+        by-count : Below count 2 → Below (E .limit) count → SetupCase E size count nodes pile
+        by-count (below a f) b = count-bad (inl a) (unfold setupGate in rw f)
+        by-count (beyond a f) (below b g) = count-bad (inr b) (unfold setupGate in rw (f, g))
+        by-count (beyond a f) (beyond b g) = too-large ((a, b), h) (unfold setupGate in rw (f, g, e))
+
+pub setup-has-room : (E : Edition) (size count nodes pile : ℕ) → setupGate E size count nodes pile ≡ 0 → Room E count nodes pile
+setup-has-room E size count nodes pile z = elim (setup-case E size count nodes pile) [
+  | count-bad h e ↦ absurd (omega (arith, z, e))
+  | too-large h e ↦ absurd (omega (arith, z, e))
+  | table-short f h e ↦ absurd (omega (arith, z, e))
+  | accepted f h e ↦ h
+]
+
 -- ---- behind the gate
-pub gated-open : (g : ℕ) (w : Words) (o : Answer × Words) → g ≡ 0 → gated g w o ≡ o
+pub gated-open : {Lent : Type 0} (g : ℕ) (w : Lent) (o : Answer × Lent) → g ≡ 0 → gated g w o ≡ o
 unfolding gated
 gated-open zero w o e = refl
 gated-open (suc g) w o e = absurd (omega arith)
 
-pub gated-shut : (g k : ℕ) (w : Words) (o : Answer × Words) → g ≡ suc k → gated g w o ≡ (refused (suc k), w)
+pub gated-shut : {Lent : Type 0} (g k : ℕ) (w : Lent) (o : Answer × Lent) → g ≡ suc k → gated g w o ≡ (refused (suc k), w)
 unfolding gated
 gated-shut zero k w o e = absurd (omega arith)
 gated-shut (suc g) k w o e = λ i. (refused (e i), w)
@@ -88,9 +129,9 @@ gated-shut (suc g) k w o e = λ i. (refused (e i), w)
 -- every call stands behind the gate
 pub call-shut : (E : Edition) (c : Call) (w : Words) (k : ℕ) → gateOf E w ≡ suc k → answerWords E c w ≡ (refused (suc k), w)
 unfolding answerWords
-call-shut E (Take s) w k e = gated-shut (gateOf E w) k w _ e
-call-shut E (HandBack r) w k e = gated-shut (gateOf E w) k w _ e
-call-shut E (SizeOf r) w k e = gated-shut (gateOf E w) k w _ e
-call-shut E Report w k e = gated-shut (gateOf E w) k w _ e
-call-shut E FullReport w k e = gated-shut (gateOf E w) k w _ e
-call-shut E Reset w k e = gated-shut (gateOf E w) k w _ e
+call-shut E c w k e = gated-shut (gateOf E w) k w (behind E c w) e
+
+-- and where there is room it is what lies behind
+pub call-open : (E : Edition) (c : Call) (w : Words) → Room E (w .count) (length (w .nodes)) (length (w .pile)) → answerWords E c w ≡ behind E c w
+unfolding answerWords
+call-open E c w room = gated-open (gateOf E w) w (behind E c w) (room-opens-gate E w room)

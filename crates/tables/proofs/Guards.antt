@@ -1,6 +1,6 @@
 -- A plan that does not stop has passed its guards. Assumes nothing.
 use mathlib.Core.Path.{_≡_, refl, subst}
-use mathlib.Core.Bool.{Bool, true, false}
+use mathlib.Core.Bool.{Bool, true, false, cond}
 use mathlib.Core.List.{List}
 use Prim.Native.Nat.{ℕ, _+_, _-_, _≤_, _<_}
 use native.Mathlib.Omega.{arith}
@@ -10,7 +10,7 @@ use borrow.Author.Tests.{ltb-true}
 use Rattle.basics.specs.Sum.{one}
 use Rattle.basics.proofs.Decided.{Same, same, differ, same?, Below, below, beyond, below?}
 use Rattle.small_float.specs.Class.{up}
-use Rattle.tables.specs.Layout.{pick, dataOffset, dataSize, neighborPrev, neighborNext, used, word}
+use Rattle.tables.specs.Layout.{dataOffset, dataSize, neighborPrev, neighborNext, used, word}
 use Rattle.tables.specs.Words.{Words}
 use Rattle.tables.specs.Search.{Found, class-is, no-class, bad-bits, findClass}
 use Rattle.tables.specs.Take.{TakePlan, planSpare, planRegion, planRecord, planClass, planTake}
@@ -77,7 +77,7 @@ pub live-low : (nodes : List ℕ) (count r : ℕ) → isLive nodes count r ≡ t
 unfolding isLive
 live-low nodes count r = go (ltb r count) refl
   where
-    go : (t : Bool) → ltb r count ≡ t → pick t (pick (eqb (word nodes used r) 0) false true) false ≡ true → r < count
+    go : (t : Bool) → ltb r count ≡ t → cond t (cond (eqb (word nodes used r) 0) false true) false ≡ true → r < count
     go true e h = ltb-true r count e
     go false e h = absurd (let z : _≡_ {A = ℕ} 0 1 = cc in omega arith)
 
@@ -85,7 +85,7 @@ pub free-low : (nodes : List ℕ) (count q : ℕ) → 1 ≤ one (isFree nodes co
 unfolding isFree
 free-low nodes count q = go (ltb q count) refl
   where
-    go : (t : Bool) → ltb q count ≡ t → 1 ≤ one (pick t (eqb (word nodes used q) 0) false) → q < count
+    go : (t : Bool) → ltb q count ≡ t → 1 ≤ one (cond t (eqb (word nodes used q) 0) false) → q < count
     go true e h = ltb-true q count e
     go false e h = absurd (omega arith)
 
@@ -121,7 +121,7 @@ back-guards w r = go (isLive (w .nodes) (w .count) r) refl
     x = word (w .nodes) neighborNext r
 
     go : (t : Bool) → isLive (w .nodes) (w .count) r ≡ t
-        → BackGuards w r (pick t (planNeighbours w r p x) (BackPlan.stop 5))
+        → BackGuards w r (cond t (planNeighbours w r p x) (BackPlan.stop 5))
     go true e = merged-guards w r p x (isFree (w .nodes) (w .count) p) (isFree (w .nodes) (w .count) x)
         (mergedOf w r p x (isFree (w .nodes) (w .count) p) (isFree (w .nodes) (w .count) x))
         (live-low (w .nodes) (w .count) r e)

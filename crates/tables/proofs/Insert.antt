@@ -1,4 +1,5 @@
 -- A record that stands in no list and not on the pile goes on top of its class: the shelf holds it. Assumes nothing.
+use mathlib.Core.Bool.{cond}
 use mathlib.Core.Path.{_≡_, refl, ap, sym, _∙_}
 use mathlib.Core.Logic.{_≢_}
 use mathlib.Core.List.{List, _∷_}
@@ -14,7 +15,7 @@ use Rattle.basics.proofs.Sums.{one-most}
 use Rattle.basics.proofs.Counts.{In, Match, hit, miss, match?, is-own, apart-by, one-below}
 use Rattle.small_float.specs.Class.{down}
 use Rattle.ledger.specs.Ledger.{onTop}
-use Rattle.tables.specs.Layout.{pick, dataSize, binPrev, binNext, word}
+use Rattle.tables.specs.Layout.{dataSize, binPrev, binNext, word}
 use Rattle.tables.specs.Words.{Words, Bounds}
 use Rattle.tables.specs.Steps.{insertNodes, joinNodes, insertAt, insert, setBit}
 use Rattle.tables.specs.Linked.{first, full}
@@ -136,8 +137,8 @@ module _ (K : Bounds) (w : Words) (stacks : ℕ → List ℕ) (spare : List ℕ)
   full-other : (d : ℕ) → d ≢ c → full (stacks′ d) ≡ full (stacks d)
   full-other d ne = rw (onTop-other c m stacks d ne)
 
-  bits′ : Bits (pick (ltb h (K .n)) (w .leaves) (set (w .leaves) (c / 8) (setBit (getD (w .leaves) (c / 8) 0) (c % 8))))
-      (pick (ltb h (K .n)) (w .top) (setBit (w .top) (c / 8))) stacks′
+  bits′ : Bits (cond (ltb h (K .n)) (w .leaves) (set (w .leaves) (c / 8) (setBit (getD (w .leaves) (c / 8) 0) (c % 8))))
+      (cond (ltb h (K .n)) (w .top) (setBit (w .top) (c / 8))) stacks′
   bits′ = elim top-of [
     | no-first n f ↦ rw (le-ltb h (K .n) (omega (arith, H .small)))
         (bits-filled (w .leaves) (w .top) stacks (H .in-bits) stacks′ c low full-other full-c)

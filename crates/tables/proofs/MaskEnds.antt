@@ -1,4 +1,5 @@
 -- The lowest set bit of a mask from a place on, and its highest, as the machine's counts of zeros find them. Assumes nothing.
+use mathlib.Core.Bool.{cond}
 use mathlib.Core.Path.{_≡_, refl, ap, sym, _∙_, subst}
 use Prim.Native.Nat.{ℕ, zero, suc, _+_, _*_, _-_, _/_, _%_, _^_, _≤_, _<_}
 use native.Mathlib.Nat.{div-one, div-eq-of-lt, pow-suc}
@@ -8,7 +9,6 @@ use lib.Pow.{pow-pos, pow-mono, shr-shr}
 use lib.Count.{leadingZeros, trailingZeros, under, leading-top}
 use borrow.Author.Tests.{eq-eqb}
 use Rattle.basics.proofs.Decided.{Same, same, differ, same?, below, beyond, below?}
-use Rattle.tables.specs.Layout.{pick}
 use Rattle.tables.specs.Search.{lowFrom, highBit}
 use Rattle.tables.specs.Linked.{mask}
 use Rattle.tables.proofs.Masks.{Bit, mask-same, mask-below, mask-none}
@@ -90,7 +90,7 @@ lowest-from k j f l most b = rw (mask-shift k j f l b) (go (same? (mask (k - j) 
     back : (i : ℕ) → j ≤ i → j + (i - j) ≡ i
     back i h = omega arith
 
-    go : Same (mask (k - j) g) 0 → LowestSet 32 k f j (pick (eqb (mask (k - j) g) 0) 32 (j + trailingZeros 32 (mask (k - j) g)))
+    go : Same (mask (k - j) g) 0 → LowestSet 32 k f j (cond (eqb (mask (k - j) g) 0) 32 (j + trailingZeros 32 (mask (k - j) g)))
     go (same z e) = rw e (none-set refl (λ i h m. rw (← (back i h)) (mask-none (k - j) g z (i - j) (omega arith))))
     go (differ z e) =
         let r = lowest-bit 32 (k - j) g (omega arith) (λ i. b (j + i)) (omega arith) in

@@ -8,7 +8,7 @@ use lib.Seq.{getD-set-other}
 use Rattle.basics.specs.Sum.{one}
 use Rattle.small_float.specs.Class.{down}
 use Rattle.ledger.specs.Ledger.{Answer}
-use Rattle.ledger.specs.Calls.{Call, Take, HandBack, SizeOf, Report, FullReport, Reset}
+use Rattle.ledger.specs.Calls.{Call, Take, HandBack, Reset, Ask}
 use Rattle.tables.specs.Layout.{dataSize, binPrev, binNext, neighborNext, used, word, put}
 use Rattle.tables.specs.Words.{Words, Edition, Bounds, bounds, withNodes, withTotal}
 use Rattle.tables.specs.Steps.{insertAt, insert, unlinkAt, unlink, pushPile, popPile}
@@ -16,7 +16,7 @@ use Rattle.tables.specs.Gate.{gateOf, gated}
 use Rattle.tables.specs.Setup.{blank, fresh}
 use Rattle.tables.specs.Take.{TakePlan, whole, split, planTake, granting, splitting, doTake}
 use Rattle.tables.specs.HandBack.{BackPlan, merge, Merged, planBack, dropIf, merging, doBack}
-use Rattle.tables.specs.Calls.{answerWords}
+use Rattle.tables.specs.Calls.{behind, answerWords}
 use Rattle.tables.specs.Reach.{KeptBeyond}
 use Rattle.tables.specs.Guards.{TakeGuards, BackGuards}
 use Rattle.tables.proofs.Fields.{length-put}
@@ -210,17 +210,15 @@ reset-written E w l =
     b = blank E (w .size) (w .count) (w .nodes) (w .pile)
 
 -- ---- every call
-gated-written : (g : ℕ) (w : Words) (o : Answer × Words) → (g ≡ 0 → KeptBeyond (w .count) w (o .1)) → KeptBeyond (w .count) w (gated g w o .1)
-gated-written g w o h = gated-ends (λ (x : Answer × Words). KeptBeyond (w .count) w (x .1)) g w o (λ k. nothing-written (w .count) w) h
-
-asked-written : (g : ℕ) (w : Words) (a : Answer) → KeptBeyond (w .count) w (gated g w (a, w) .1)
-asked-written g w a = gated-written g w (a, w) (λ e. nothing-written (w .count) w)
+behind-written : (E : Edition) (c : Call) (w : Words) → 1 ≤ w .count → KeptBeyond (w .count) w (behind E c w .1)
+unfolding behind
+behind-written E (Take asked) w l = take-written E w (asked .size) (planTake w (asked .size)) (take-guards w (asked .size))
+behind-written E (HandBack span) w l = back-written E w (span .number) (planBack w (span .number)) (back-guards w (span .number))
+behind-written E Reset w l = reset-written E w l
+behind-written E (Ask q) w l = nothing-written (w .count) w
 
 pub not-written : (E : Edition) (c : Call) (w : Words) → KeptBeyond (w .count) w (answerWords E c w .1)
 unfolding answerWords
-not-written E (Take s) w = gated-written (gateOf E w) w _ (λ e. take-written E w s (planTake w s) (take-guards w s))
-not-written E (HandBack r) w = gated-written (gateOf E w) w _ (λ e. back-written E w r (planBack w r) (back-guards w r))
-not-written E (SizeOf r) w = asked-written (gateOf E w) w _
-not-written E Report w = asked-written (gateOf E w) w _
-not-written E FullReport w = asked-written (gateOf E w) w _
-not-written E Reset w = gated-written (gateOf E w) w _ (λ e. reset-written E w (omega (arith, gate-has-room E w e .count-low)))
+not-written E c w =
+    gated-ends (λ (x : Answer × Words). KeptBeyond (w .count) w (x .1)) (gateOf E w) w (behind E c w) (λ k. nothing-written (w .count) w)
+    (λ e. behind-written E c w (omega (arith, gate-has-room E w e .count-low)))

@@ -1,13 +1,13 @@
 -- What holds of each end that a choice, a gated call or a plan can come to holds of the whole. Assumes nothing.
 use mathlib.Core.Path.{_≡_, refl}
-use mathlib.Core.Bool.{Bool, true, false}
+use mathlib.Core.Bool.{Bool, true, false, cond}
 use Prim.Native.Nat.{ℕ, zero, suc, _+_, _-_}
 use lib.Dec.{ltb, eqb}
 use lib.ListN.{getD}
 use Rattle.basics.specs.Sum.{one}
 use Rattle.small_float.specs.Class.{up}
 use Rattle.ledger.specs.Ledger.{Answer, refused}
-use Rattle.tables.specs.Layout.{pick, dataOffset, dataSize, neighborPrev, neighborNext, word}
+use Rattle.tables.specs.Layout.{dataOffset, dataSize, neighborPrev, neighborNext, word}
 use Rattle.tables.specs.Words.{Words}
 use Rattle.tables.specs.Gate.{gated}
 use Rattle.tables.specs.Search.{Found, class-is, no-class, bad-bits, findClass}
@@ -15,12 +15,12 @@ use Rattle.tables.specs.Take.{TakePlan, whole, split, planSpare, planReg
 use Rattle.tables.specs.HandBack.{BackPlan, merge, Merged, isLive, isFree, mergedOf, planMerged, planSides, planNeighbours, planBack}
 
 -- what holds of both arms holds of the choice
-pub either : {A : Type 0} (P : A → Type 0) (t : Bool) {a b : A} → P a → P b → P (pick t a b)
+pub either : {A : Type 0} (P : A → Type 0) (t : Bool) {a b : A} → P a → P b → P (cond t a b)
 either P true x y = x
 either P false x y = y
 
 -- ---- the gate: its refusals, and what lies behind it
-pub gated-ends : (P : Answer × Words → Type 0) (g : ℕ) (w : Words) (o : Answer × Words) → ((k : ℕ) → P (refused (suc k), w))
+pub gated-ends : {Lent : Type 0} (P : Answer × Lent → Type 0) (g : ℕ) (w : Lent) (o : Answer × Lent) → ((k : ℕ) → P (refused (suc k), w))
     → (g ≡ 0 → P o) → P (gated g w o)
 unfolding gated
 gated-ends P zero w o shut opened = opened refl

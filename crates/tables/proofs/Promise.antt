@@ -22,8 +22,8 @@ module _ (E : Edition) (c : Call) (w : Words) {v : Words} {a : Answer} where
         let kept = call-sound E w l s c in
         (answer-is ∙ kept .0, subst (λ (u : Words). Sound E u (answer by-class (w .size) (w .count) c l .1)) (sym words-are) (kept .1));
     kept = λ k q. words-are ∙ refused-kept E c w k (sym answer-is ∙ q);
-    inside = λ s o r q g.
-        grant-inside E w s o r (ap (λ (x : Call). answerWords E x w .0) (sym q) ∙ (sym answer-is ∙ g));
+    inside = λ asked o r q g.
+        grant-inside E w asked o r (ap (λ (x : Call). answerWords E x w .0) (sym q) ∙ (sym answer-is ∙ g));
   }
     where
       answer-is : a ≡ answerWords E c w .0
@@ -44,7 +44,7 @@ setup-promise E size count lent {v} {a} small e = record {
   exact = e;
   size-fits = small;
   ledger = λ q.
-      subst (λ (u : Words). Sound E u (setup by-class size count)) (sym words-are) (setup-sound E size count lent small (sym answer-is ∙ q));
+      subst (λ (u : Words). Sound E u (setup by-class size count)) (sym words-are) (setup-sound E size count lent (sym answer-is ∙ q));
   kept = λ k q. words-are ∙ setup-refused E size count lent k (sym answer-is ∙ q);
 }
   where

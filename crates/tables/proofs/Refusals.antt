@@ -1,30 +1,30 @@
 -- When setup is refused as 1 and as 2, and every other call as 6 and as 2 before all else, exactly; behind an open gate, when a take gives 3, and a
 -- hand-back and a size query 5; and which numbers a call can give at all: on any words. Assumes nothing.
-use mathlib.Core.Path.{_≡_, refl, ap, subst}
-use mathlib.Core.Bool.{true, false}
+use mathlib.Core.Path.{_≡_, refl, sym, ap, subst, _∙_}
+use mathlib.Core.Bool.{true, false, cond}
 use mathlib.Core.Logic.{_↔_, _⊎_, inl, inr, _≢_}
 use mathlib.Core.List.{List, [], _∷_}
-use Prim.Native.Nat.{ℕ, suc, _+_, _*_, _<_}
+use Prim.Native.Nat.{ℕ, suc, _+_, _*_, _<_, _≤_}
 use native.Mathlib.Omega.{arith}
 use lib.Dec.{ltb, eqb}
 use lib.ListN.{length, getD, replicate}
 use Rattle.basics.proofs.Decided.{Same, same, differ, same?, Below, below, beyond, below?}
 use Rattle.small_float.specs.Class.{up, classesInUse}
 use Rattle.ledger.specs.Ledger.{Answer, granted, done, length-is, reported, classes, refused}
-use Rattle.ledger.specs.Calls.{Call, Take, HandBack, SizeOf, Report, FullReport, Reset}
-use Rattle.tables.specs.Layout.{pick, dataSize, neighborPrev, neighborNext, used, word}
+use Rattle.ledger.specs.Calls.{Request, Token, Question, SizeOf, Report, FullReport, Call, Take, HandBack, Reset, Ask}
+use Rattle.tables.specs.Layout.{dataSize, neighborPrev, neighborNext, used, word}
 use Rattle.tables.specs.Words.{Words, Edition}
-use Rattle.tables.specs.Gate.{gate, gateOf, gated}
+use Rattle.tables.specs.Gate.{gate, setupGate, gateOf}
 use Rattle.tables.specs.Setup.{Lent, fresh, zeros, setupWords}
 use Rattle.tables.specs.Search.{Found, findClass, highBit}
 use Rattle.tables.specs.Take.{planClass, planTake, doTake}
 use Rattle.tables.specs.HandBack.{isLive, planNeighbours, planBack, doBack}
-use Rattle.tables.specs.Questions.{reportClass, reportLeaf, reportTop, reportOf, Counts, counts, circular, countFrom, fullAnswer}
-use Rattle.tables.specs.Calls.{answerWords}
-use Rattle.tables.specs.Reach.{Room}
-use Rattle.tables.specs.Claims.{BadCount, TooShort, OneOf, mayGive, NotLive}
-use Rattle.tables.proofs.Gate.{bad-count, too-short, open-gate, gated?, room-not-bad, room-not-short, short-not-bad}
-use Rattle.tables.proofs.Gate.{room-opens, room-opens-gate, gated-open, gated-shut, call-shut}
+use Rattle.tables.specs.Questions.{reportClass, reportLeaf, reportTop, reportOf, Counts, counts, circular, countFrom, fullAnswer, lengthOf, fullReportOf}
+use Rattle.tables.specs.Calls.{toldBy, behind, answerWords}
+use Rattle.tables.specs.Room.{Room}
+use Rattle.tables.specs.Claims.{BadCount, TooShort, TooLarge, OneOf, mayGive, NotLive, mayGiveBehind, mayTell}
+use Rattle.tables.proofs.Gate.{bad-count, too-short, open-gate, gated?, room-not-bad, room-not-short, short-not-bad, call-open}
+use Rattle.tables.proofs.Gate.{large-not-bad, sizes-pass, SetupCase, count-bad, too-large, table-short, accepted, setup-case, room-opens, gated-open, gated-shut, call-shut}
 use Rattle.tables.proofs.PlanEnds.{either, gated-ends, class-ends, take-ends, neighbours-ends, back-ends}
 
 -- ---- the gate's two refusals
@@ -45,65 +45,111 @@ module _ (E : Edition) (bad count nodes pile : ℕ) where
 
 -- ---- setup: what it answers in each case of the gate, and that the answer tells the case
 module _ (E : Edition) (size count : ℕ) (lent : Lent) where
-  pub setup-opens : Room E count (length (lent .nodes)) (length (lent .pile))
-      → setupWords E size count lent ≡ (done, fresh E size count (lent .nodes) (lent .pile))
+  abbrev its-gate : ℕ
+  its-gate = setupGate E size count (length (lent .nodes)) (length (lent .pile))
+
+  abbrev afresh : Answer × Words
+  afresh = (done, fresh E size count (lent .nodes) (lent .pile))
+
+  case-of : SetupCase E size count (length (lent .nodes)) (length (lent .pile))
+  case-of = setup-case E size count (length (lent .nodes)) (length (lent .pile))
+
+  opens : its-gate ≡ 0 → setupWords E size count lent ≡ afresh
   unfolding setupWords
-  setup-opens h = gated-open (gate E 1 count (length (lent .nodes)) (length (lent .pile))) (zeros lent)
-      (done, fresh E size count (lent .nodes) (lent .pile))
-      (room-opens E 1 count (length (lent .nodes)) (length (lent .pile)) h)
+  opens e = gated-open its-gate (zeros lent) afresh e
 
-  setup-shut : (k : ℕ) → gate E 1 count (length (lent .nodes)) (length (lent .pile)) ≡ suc k → setupWords E size count lent .0 ≡ refused (suc k)
+  shut : (k : ℕ) → its-gate ≡ suc k → setupWords E size count lent ≡ (refused (suc k), zeros lent)
   unfolding setupWords
-  setup-shut k e =
-      ap (λ (o : Answer × Words). o .0)
-      (gated-shut (gate E 1 count (length (lent .nodes)) (length (lent .pile))) k (zeros lent) (done, fresh E size count (lent .nodes) (lent .pile)) e)
+  shut k e = gated-shut its-gate k (zeros lent) afresh e
 
-  gives-1 : BadCount E count → setupWords E size count lent .0 ≡ refused 1
-  gives-1 h = setup-shut 0 (bad-shuts E 1 count (length (lent .nodes)) (length (lent .pile)) h)
+  pub setup-opens : size ≤ E .greatest → Room E count (length (lent .nodes)) (length (lent .pile)) → setupWords E size count lent ≡ afresh
+  setup-opens fits h = opens
+      (sizes-pass E size count (length (lent .nodes)) (length (lent .pile)) fits
+      ∙ room-opens E 1 count (length (lent .nodes)) (length (lent .pile)) h)
 
-  gives-2 : TooShort E count (length (lent .nodes)) (length (lent .pile)) → setupWords E size count lent .0 ≡ refused 2
-  gives-2 h = setup-shut 1 (short-shuts E 1 count (length (lent .nodes)) (length (lent .pile)) h)
+  -- what the answer tells of each case, once the case is known
+  answer-of : {a : Answer} {o : Answer × Words} → setupWords E size count lent ≡ o → setupWords E size count lent .0 ≡ a → o .0 ≡ a
+  answer-of e f = sym (ap (λ (o : Answer × Words). o .0) e) ∙ f
 
-  gives-done : Room E count (length (lent .nodes)) (length (lent .pile)) → setupWords E size count lent .0 ≡ done
-  gives-done h = ap (λ (o : Answer × Words). o .0) (setup-opens h)
+  gives : {o : Answer × Words} → setupWords E size count lent ≡ o → setupWords E size count lent .0 ≡ o .0
+  gives e = ap (λ (o : Answer × Words). o .0) e
+
+  other-number : {j k : ℕ} → j ≢ k → refused j ≡ refused k → ⊥
+  other-number h e = h (cc)
+
+  never-done : {k : ℕ} → refused k ≡ done → ⊥
+  never-done e = let z : _≡_ {A = ℕ} 0 1 = cc in omega arith
 
   pub setup-1 : (setupWords E size count lent .0 ≡ refused 1) ↔ BadCount E count
-  setup-1 = (tells, gives-1)
-    where
-      tells : setupWords E size count lent .0 ≡ refused 1 → BadCount E count
-      tells a = elim (gated? E 1 count (length (lent .nodes)) (length (lent .pile))) [
-        | bad-count h e ↦ h
-        | too-short h e ↦ absurd (let z : _≡_ {A = ℕ} 1 2 = cc (gives-2 h) in omega arith)
-        | open-gate h e ↦ absurd (let z : _≡_ {A = ℕ} 0 1 = cc (gives-done h) in omega arith)
-      ]
+  setup-1 = elim case-of [
+    | count-bad h e ↦ (λ a. h, λ b. gives (shut 0 e))
+    | too-large h e ↦ (λ a. absurd (other-number (omega arith) (answer-of (shut 9 e) a)), λ b. absurd (large-not-bad E size count h b))
+    | table-short f h e ↦ (
+      λ a. absurd (other-number (omega arith) (answer-of (shut 1 e) a)),
+      λ b. absurd (short-not-bad E count (length (lent .nodes)) (length (lent .pile)) h b),
+    )
+    | accepted f h e ↦ (
+      λ a. absurd (never-done (sym (answer-of (opens e) a))),
+      λ b. absurd (room-not-bad E count (length (lent .nodes)) (length (lent .pile)) h b),
+    )
+  ]
 
-  pub setup-2 : (setupWords E size count lent .0 ≡ refused 2) ↔ TooShort E count (length (lent .nodes)) (length (lent .pile))
-  setup-2 = (tells, gives-2)
-    where
-      tells : setupWords E size count lent .0 ≡ refused 2 → TooShort E count (length (lent .nodes)) (length (lent .pile))
-      tells a = elim (gated? E 1 count (length (lent .nodes)) (length (lent .pile))) [
-        | bad-count h e ↦ absurd (let z : _≡_ {A = ℕ} 1 2 = cc (gives-1 h) in omega arith)
-        | too-short h e ↦ h
-        | open-gate h e ↦ absurd (let z : _≡_ {A = ℕ} 0 1 = cc (gives-done h) in omega arith)
-      ]
+  pub setup-10 : (setupWords E size count lent .0 ≡ refused 10) ↔ TooLarge E size count
+  setup-10 = elim case-of [
+    | count-bad h e ↦ (λ a. absurd (other-number (omega arith) (answer-of (shut 0 e) a)), λ b. absurd (large-not-bad E size count b h))
+    | too-large h e ↦ (λ a. h, λ b. gives (shut 9 e))
+    | table-short f h e ↦ (λ a. absurd (other-number (omega arith) (answer-of (shut 1 e) a)), λ b. absurd (omega (arith, b .1)))
+    | accepted f h e ↦ (λ a. absurd (never-done (sym (answer-of (opens e) a))), λ b. absurd (omega (arith, b .1)))
+  ]
 
-  pub setup-done : (setupWords E size count lent .0 ≡ done) ↔ Room E count (length (lent .nodes)) (length (lent .pile))
-  setup-done = (tells, gives-done)
-    where
-      tells : setupWords E size count lent .0 ≡ done → Room E count (length (lent .nodes)) (length (lent .pile))
-      tells a = elim (gated? E 1 count (length (lent .nodes)) (length (lent .pile))) [
-        | bad-count h e ↦ absurd (let z : _≡_ {A = ℕ} 0 1 = cc (gives-1 h) in omega arith)
-        | too-short h e ↦ absurd (let z : _≡_ {A = ℕ} 0 1 = cc (gives-2 h) in omega arith)
-        | open-gate h e ↦ h
-      ]
+  pub setup-2 : (setupWords E size count lent .0 ≡ refused 2)
+      ↔ ((size ≤ E .greatest) × TooShort E count (length (lent .nodes)) (length (lent .pile)))
+  setup-2 = elim case-of [
+    | count-bad h e ↦ (
+      λ a. absurd (other-number (omega arith) (answer-of (shut 0 e) a)),
+      λ b. absurd (short-not-bad E count (length (lent .nodes)) (length (lent .pile)) (b .1) h),
+    )
+    | too-large h e ↦ (λ a. absurd (other-number (omega arith) (answer-of (shut 9 e) a)), λ b. absurd (omega (arith, b .0, h .1)))
+    | table-short f h e ↦ (λ a. (f, h), λ b. gives (shut 1 e))
+    | accepted f h e ↦ (
+      λ a. absurd (never-done (sym (answer-of (opens e) a))),
+      λ b. absurd (room-not-short E count (length (lent .nodes)) (length (lent .pile)) h (b .1)),
+    )
+  ]
 
-  pub setup-refused : (k : ℕ) → setupWords E size count lent .0 ≡ refused k
-      → setupWords E size count lent .1 ≡ zeros lent
-  unfolding setupWords
-  setup-refused k =
-      gated-ends (λ (x : Answer × Words). x .0 ≡ refused k → x .1 ≡ zeros lent) (gate E 1 count (length (lent .nodes)) (length (lent .pile)))
-      (zeros lent) (done, fresh E size count (lent .nodes) (lent .pile)) (λ j e. refl)
-      (λ g e. absurd (let z : _≡_ {A = ℕ} 0 1 = cc in omega arith))
+  pub setup-done : (setupWords E size count lent .0 ≡ done)
+      ↔ ((size ≤ E .greatest) × Room E count (length (lent .nodes)) (length (lent .pile)))
+  setup-done = elim case-of [
+    | count-bad h e ↦ (
+      λ a. absurd (never-done (answer-of (shut 0 e) a)),
+      λ b. absurd (room-not-bad E count (length (lent .nodes)) (length (lent .pile)) (b .1) h),
+    )
+    | too-large h e ↦ (λ a. absurd (never-done (answer-of (shut 9 e) a)), λ b. absurd (omega (arith, b .0, h .1)))
+    | table-short f h e ↦ (
+      λ a. absurd (never-done (answer-of (shut 1 e) a)),
+      λ b. absurd (room-not-short E count (length (lent .nodes)) (length (lent .pile)) (b .1) h),
+    )
+    | accepted f h e ↦ (λ a. (f, h), λ b. gives (opens e))
+  ]
+
+  pub setup-refused : (k : ℕ) → setupWords E size count lent .0 ≡ refused k → setupWords E size count lent .1 ≡ zeros lent
+  setup-refused k a = elim case-of [
+    | count-bad h e ↦ ap (λ (o : Answer × Words). o .1) (shut 0 e)
+    | too-large h e ↦ ap (λ (o : Answer × Words). o .1) (shut 9 e)
+    | table-short f h e ↦ ap (λ (o : Answer × Words). o .1) (shut 1 e)
+    | accepted f h e ↦ absurd (never-done (sym (answer-of (opens e) a)))
+  ]
+
+  pub setup-numbers : (k : ℕ) → setupWords E size count lent .0 ≡ refused k → OneOf (1 ∷ 10 ∷ 2 ∷ []) k
+  setup-numbers k a = elim case-of [
+    | count-bad h e ↦ at (inl refl) (answer-of (shut 0 e) a)
+    | too-large h e ↦ at (inr (inl refl)) (answer-of (shut 9 e) a)
+    | table-short f h e ↦ at (inr (inr (inl refl))) (answer-of (shut 1 e) a)
+    | accepted f h e ↦ absurd (never-done (sym (answer-of (opens e) a)))
+  ]
+    where
+      at : {j : ℕ} → OneOf (1 ∷ 10 ∷ 2 ∷ []) j → refused j ≡ refused k → OneOf (1 ∷ 10 ∷ 2 ∷ []) k
+      at {j} h q = let same-number : j ≡ k = cc in subst (λ (n : ℕ). OneOf (1 ∷ 10 ∷ 2 ∷ []) n) same-number h
 
 -- ---- every other call
 pub call-6 : (E : Edition) (c : Call) (w : Words) → BadCount E (w .count) → answerWords E c w ≡ (refused 6, w)
@@ -128,14 +174,6 @@ Gives ns (refused k) = OneOf ns k
 given : (ns : List ℕ) (a : Answer) (k : ℕ) → Gives ns a → a ≡ refused k → OneOf ns k
 given ns a k h e = subst (λ (x : Answer). Gives ns x) e h
 
-abbrev behindGate : Call → List ℕ
-behindGate (Take s) = 3 ∷ 4 ∷ 6 ∷ []
-behindGate (HandBack r) = 5 ∷ 6 ∷ []
-behindGate (SizeOf r) = 5 ∷ []
-behindGate Report = 6 ∷ []
-behindGate FullReport = 6 ∷ []
-behindGate Reset = []
-
 module _ (E : Edition) (w : Words) where
   -- once there are spares, a take does not give 3
   class-gives : (s : ℕ) (found : Found) → Gives (4 ∷ 6 ∷ []) (doTake E w s (planClass w s found) .0)
@@ -143,7 +181,7 @@ module _ (E : Edition) (w : Words) where
   class-gives s found =
       class-ends w s (λ p. Gives (4 ∷ 6 ∷ []) (doTake E w s p .0)) (inl refl) (inr (inl refl)) (λ c r o. tt) (λ c r o rest m. tt) found
 
-  take-gives : (s : ℕ) → Gives (behindGate (Take s)) (doTake E w s (planTake w s) .0)
+  take-gives : (s : ℕ) → Gives (3 ∷ 4 ∷ 6 ∷ []) (doTake E w s (planTake w s) .0)
   unfolding doTake
   take-gives s =
       take-ends w s (λ p. Gives (3 ∷ 4 ∷ 6 ∷ []) (doTake E w s p .0)) (inl refl) (inr (inl refl)) (inr (inr (inl refl)))
@@ -155,7 +193,7 @@ module _ (E : Edition) (w : Words) where
   neighbours-give r p x =
       neighbours-ends w r (λ b. Gives (6 ∷ []) (doBack E w r b .0)) (inl refl) (λ p x p-free x-free m. tt) p x
 
-  back-gives : (r : ℕ) → Gives (behindGate (HandBack r)) (doBack E w r (planBack w r) .0)
+  back-gives : (r : ℕ) → Gives (5 ∷ 6 ∷ []) (doBack E w r (planBack w r) .0)
   unfolding doBack
   back-gives r =
       back-ends w r (λ p. Gives (5 ∷ 6 ∷ []) (doBack E w r p .0)) (inl refl) (inr (inl refl)) (λ p x p-free x-free m. tt)
@@ -179,86 +217,57 @@ module _ (E : Edition) (w : Words) where
   full-gives (counts l) = tt
   full-gives circular = inl refl
 
-  opened : (ns : List ℕ) (o : Answer × Words) → Room E (w .count) (length (w .nodes)) (length (w .pile)) → Gives ns (o .0)
-      → Gives ns (gated (gateOf E w) w o .0)
-  opened ns o room h = rw (gated-open (gateOf E w) w o (room-opens-gate E w room)) h
+  told-gives : (q : Question) → Gives (mayTell q) (toldBy w q)
+  unfolding toldBy lengthOf fullReportOf
+  told-gives (SizeOf span) = either (Gives (5 ∷ [])) (isLive (w .nodes) (w .count) (span .number)) tt (inl refl)
+  told-gives Report = report-gives
+  told-gives FullReport = full-gives (countFrom 256 w 0 (replicate 256 0))
 
-call-gives : (E : Edition) (c : Call) (w : Words) → Room E (w .count) (length (w .nodes)) (length (w .pile))
-    → Gives (behindGate c) (answerWords E c w .0)
-unfolding answerWords
-call-gives E (Take s) w room = opened E w _ _ room (take-gives E w s)
-call-gives E (HandBack r) w room = opened E w _ _ room (back-gives E w r)
-call-gives E (SizeOf r) w room = opened E w _ _ room (either (Gives (5 ∷ [])) (isLive (w .nodes) (w .count) r) tt (inl refl))
-call-gives E Report w room = opened E w _ _ room (report-gives E w)
-call-gives E FullReport w room = opened E w _ _ room (full-gives E w (countFrom 256 w 0 (replicate 256 0)))
-call-gives E Reset w room = opened E w _ _ room tt
+  behind-gives : (c : Call) → Gives (mayGiveBehind c) (behind E c w .0)
+  unfolding behind
+  behind-gives (Take asked) = take-gives (asked .size)
+  behind-gives (HandBack span) = back-gives (span .number)
+  behind-gives Reset = tt
+  behind-gives (Ask q) = told-gives q
+
+pub numbers-behind : (E : Edition) (c : Call) (w : Words) → Room E (w .count) (length (w .nodes)) (length (w .pile))
+    → (k : ℕ) → answerWords E c w .0 ≡ refused k → OneOf (mayGiveBehind c) k
+numbers-behind E c w room k e = given (mayGiveBehind c) (behind E c w .0) k (behind-gives E w c) (rw (call-open E c w room) at e)
 
 -- ---- behind an open gate no call gives 2
-without-2 : (c : Call) → OneOf (behindGate c) 2 → ⊥
-without-2 (Take s) (inl e) = omega arith
-without-2 (Take s) (inr (inl e)) = omega arith
-without-2 (Take s) (inr (inr (inl e))) = omega arith
-without-2 (Take s) (inr (inr (inr e))) = e
-without-2 (HandBack r) (inl e) = omega arith
-without-2 (HandBack r) (inr (inl e)) = omega arith
-without-2 (HandBack r) (inr (inr e)) = e
-without-2 (SizeOf r) (inl e) = omega arith
-without-2 (SizeOf r) (inr e) = e
-without-2 Report (inl e) = omega arith
-without-2 Report (inr e) = e
-without-2 FullReport (inl e) = omega arith
-without-2 FullReport (inr e) = e
+told-without-2 : (q : Question) → OneOf (mayTell q) 2 → ⊥
+told-without-2 (SizeOf span) (inl e) = omega arith
+told-without-2 (SizeOf span) (inr e) = e
+told-without-2 Report (inl e) = omega arith
+told-without-2 Report (inr e) = e
+told-without-2 FullReport (inl e) = omega arith
+told-without-2 FullReport (inr e) = e
+
+without-2 : (c : Call) → OneOf (mayGiveBehind c) 2 → ⊥
+without-2 (Take asked) (inl e) = omega arith
+without-2 (Take asked) (inr (inl e)) = omega arith
+without-2 (Take asked) (inr (inr (inl e))) = omega arith
+without-2 (Take asked) (inr (inr (inr e))) = e
+without-2 (HandBack span) (inl e) = omega arith
+without-2 (HandBack span) (inr (inl e)) = omega arith
+without-2 (HandBack span) (inr (inr e)) = e
 without-2 Reset e = e
+without-2 (Ask q) e = told-without-2 q e
 
 pub not-2 : (E : Edition) (c : Call) (w : Words) → Room E (w .count) (length (w .nodes)) (length (w .pile))
     → ¬ (answerWords E c w .0 ≡ refused 2)
-not-2 E c w room e = without-2 c (given (behindGate c) (answerWords E c w .0) 2 (call-gives E c w room) e)
+not-2 E c w room e = without-2 c (numbers-behind E c w room 2 e)
 
 -- ---- which numbers a call can give at all
-two-of : (c : Call) → OneOf (mayGive c) 2
-two-of (Take s) = inl refl
-two-of (HandBack r) = inl refl
-two-of (SizeOf r) = inl refl
-two-of Report = inl refl
-two-of FullReport = inl refl
-two-of Reset = inl refl
-
-six-of : (c : Call) → OneOf (mayGive c) 6
-six-of (Take s) = inr (inr (inr (inl refl)))
-six-of (HandBack r) = inr (inr (inl refl))
-six-of (SizeOf r) = inr (inr (inl refl))
-six-of Report = inr (inl refl)
-six-of FullReport = inr (inl refl)
-six-of Reset = inr (inl refl)
-
-behind-of : (c : Call) (k : ℕ) → OneOf (behindGate c) k → OneOf (mayGive c) k
-behind-of (Take s) k h = inr h
-behind-of (HandBack r) k h = inr h
-behind-of (SizeOf r) k (inl e) = inr (inl e)
-behind-of (SizeOf r) k (inr e) = absurd e
-behind-of Report k h = inr h
-behind-of FullReport k h = inr h
-behind-of Reset k h = absurd h
-
 pub numbers : (E : Edition) (c : Call) (w : Words) (k : ℕ) → answerWords E c w .0 ≡ refused k → OneOf (mayGive c) k
 numbers E c w k e = elim (gated? E 6 (w .count) (length (w .nodes)) (length (w .pile))) [
-  | bad-count h g ↦ at (six-of c) (call-6 E c w h)
-  | too-short h g ↦ at (two-of c) (call-2 E c w h)
-  | open-gate h g ↦ behind-of c k (given (behindGate c) (answerWords E c w .0) k (call-gives E c w h) e)
+  | bad-count h g ↦ at (inl refl) (call-6 E c w h)
+  | too-short h g ↦ at (inr (inl refl)) (call-2 E c w h)
+  | open-gate h g ↦ inr (inr (numbers-behind E c w h k e))
 ]
   where
     at : {j : ℕ} → OneOf (mayGive c) j → answerWords E c w ≡ (refused j, w) → OneOf (mayGive c) k
     at {j} h q = let same-number : j ≡ k = cc in subst (λ (n : ℕ). OneOf (mayGive c) n) same-number h
-
-pub setup-numbers : (E : Edition) (size count : ℕ) (lent : Lent) (k : ℕ) → setupWords E size count lent .0 ≡ refused k → OneOf (1 ∷ 2 ∷ []) k
-setup-numbers E size count lent k e = elim (gated? E 1 count (length (lent .nodes)) (length (lent .pile))) [
-  | bad-count h g ↦ at (inl refl) (setup-1 E size count lent .1 h)
-  | too-short h g ↦ at (inr (inl refl)) (setup-2 E size count lent .1 h)
-  | open-gate h g ↦ absurd (let z : _≡_ {A = ℕ} 0 1 = cc (setup-done E size count lent .1 h) in omega arith)
-]
-  where
-    at : {j : ℕ} → OneOf (1 ∷ 2 ∷ []) j → setupWords E size count lent .0 ≡ refused j → OneOf (1 ∷ 2 ∷ []) k
-    at {j} h q = let same-number : j ≡ k = cc in subst (λ (n : ℕ). OneOf (1 ∷ 2 ∷ []) n) same-number h
 
 -- ---- 3 and 5, behind an open gate: exactly when
 not-3 : OneOf (4 ∷ 6 ∷ []) 3 → ⊥
@@ -281,12 +290,12 @@ unfolding planTake doTake
 spare-gives E w s (same e t) h = rw t refl
 spare-gives E w s (differ e t) h = absurd (e h)
 
-pub take-3 : (E : Edition) (w : Words) (s : ℕ) → Room E (w .count) (length (w .nodes)) (length (w .pile))
-    → (answerWords E (Take s) w .0 ≡ refused 3) ↔ (w .off ≡ 0)
-unfolding answerWords
-take-3 E w s room =
-    rw (gated-open (gateOf E w) w (doTake E w s (planTake w s)) (room-opens-gate E w room))
-    (spare-told E w s (same? (w .off) 0), spare-gives E w s (same? (w .off) 0))
+pub take-3 : (E : Edition) (w : Words) (asked : Request) → Room E (w .count) (length (w .nodes)) (length (w .pile))
+    → (answerWords E (Take asked) w .0 ≡ refused 3) ↔ (w .off ≡ 0)
+unfolding behind
+take-3 E w asked room =
+    rw (call-open E (Take asked) w room)
+    (spare-told E w (asked .size) (same? (w .off) 0), spare-gives E w (asked .size) (same? (w .off) 0))
 
 -- the test of a live record is what it says
 data Lives (w : Words) (r : ℕ) : Type 0 where
@@ -316,22 +325,19 @@ back-dead-or-alive E w r (alive h t) = (
 )
 
 size-dead-or-alive : (w : Words) (r : ℕ) → Lives w r
-    → (pick (isLive (w .nodes) (w .count) r) (length-is (word (w .nodes) dataSize r)) (refused 5) ≡ refused 5) ↔ NotLive w r
+    → (cond (isLive (w .nodes) (w .count) r) (length-is (word (w .nodes) dataSize r)) (refused 5) ≡ refused 5) ↔ NotLive w r
 size-dead-or-alive w r (dead h t) = (λ a. h, λ x. rw t refl)
 size-dead-or-alive w r (alive h t) = (
   λ a. absurd (let z : _≡_ {A = ℕ} 0 1 = cc (rw t at a) in omega arith),
   λ x. absurd (h x),
 )
 
-pub back-5 : (E : Edition) (w : Words) (r : ℕ) → Room E (w .count) (length (w .nodes)) (length (w .pile))
-    → (answerWords E (HandBack r) w .0 ≡ refused 5) ↔ NotLive w r
-unfolding answerWords
-back-5 E w r room =
-    rw (gated-open (gateOf E w) w (doBack E w r (planBack w r)) (room-opens-gate E w room)) (back-dead-or-alive E w r (lives? w r))
+pub back-5 : (E : Edition) (w : Words) (span : Token) → Room E (w .count) (length (w .nodes)) (length (w .pile))
+    → (answerWords E (HandBack span) w .0 ≡ refused 5) ↔ NotLive w (span .number)
+unfolding behind
+back-5 E w span room = rw (call-open E (HandBack span) w room) (back-dead-or-alive E w (span .number) (lives? w (span .number)))
 
-pub size-5 : (E : Edition) (w : Words) (r : ℕ) → Room E (w .count) (length (w .nodes)) (length (w .pile))
-    → (answerWords E (SizeOf r) w .0 ≡ refused 5) ↔ NotLive w r
-unfolding answerWords
-size-5 E w r room =
-    rw (gated-open (gateOf E w) w (pick (isLive (w .nodes) (w .count) r) (length-is (word (w .nodes) dataSize r)) (refused 5), w)
-    (room-opens-gate E w room)) (size-dead-or-alive w r (lives? w r))
+pub size-5 : (E : Edition) (w : Words) (span : Token) → Room E (w .count) (length (w .nodes)) (length (w .pile))
+    → (answerWords E (Ask (SizeOf span)) w .0 ≡ refused 5) ↔ NotLive w (span .number)
+unfolding behind toldBy lengthOf
+size-5 E w span room = rw (call-open E (Ask (SizeOf span)) w room) (size-dead-or-alive w (span .number) (lives? w (span .number)))

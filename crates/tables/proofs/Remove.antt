@@ -1,7 +1,7 @@
 -- A record leaves its class list, wherever in it it stands: the shelf is without it, and the record is free to go elsewhere. Assumes nothing.
 use mathlib.Core.Path.{_≡_, refl, ap, sym, _∙_}
 use mathlib.Core.Logic.{_≢_}
-use mathlib.Core.Bool.{true, false}
+use mathlib.Core.Bool.{true, false, cond}
 use mathlib.Core.List.{List, [], _∷_, _++_}
 use Prim.Native.Nat.{ℕ, zero, suc, _+_, _/_, _%_, _≤_, _<_}
 use native.Mathlib.Omega.{arith}
@@ -16,7 +16,7 @@ use Rattle.basics.proofs.Counts.{In, Match, hit, miss, match?, is-own}
 use Rattle.small_float.specs.Class.{down}
 use Rattle.ledger.specs.Ledger.{remove, without}
 use Rattle.ledger.proofs.Stacks.{tally-without}
-use Rattle.tables.specs.Layout.{pick, binPrev, binNext, word, putLink}
+use Rattle.tables.specs.Layout.{binPrev, binNext, word, putLink}
 use Rattle.tables.specs.Words.{Words, Bounds}
 use Rattle.tables.specs.Steps.{unlinkAt, clearBit}
 use Rattle.tables.specs.Linked.{first, full}
@@ -148,7 +148,7 @@ module _ (K : Bounds) (w : Words) (stacks : ℕ → List ℕ) (spare : List ℕ)
   p-none e = le-ltb p (K .n) (omega (arith, H .small))
 
   abbrev heads′ : List ℕ
-  heads′ = pick (ltb p (K .n)) (w .heads) (set (w .heads) c x)
+  heads′ = cond (ltb p (K .n)) (w .heads) (set (w .heads) c x)
 
   heads-room′ : length heads′ ≡ 256
   heads-room′ = elim p-of [
@@ -190,8 +190,8 @@ module _ (K : Bounds) (w : Words) (stacks : ℕ → List ℕ) (spare : List ℕ)
   -- as unlinkAt leaves them
   abbrev BitsAfter : Type 0
   BitsAfter =
-      Bits (pick (ltb p (K .n)) (w .leaves) (pick (ltb x (K .n)) (w .leaves) (set (w .leaves) (c / 8) cleared)))
-      (pick (ltb p (K .n)) (w .top) (pick (ltb x (K .n)) (w .top) (pick (eqb cleared 0) (clearBit 32 (w .top) (c / 8)) (w .top))))
+      Bits (cond (ltb p (K .n)) (w .leaves) (cond (ltb x (K .n)) (w .leaves) (set (w .leaves) (c / 8) cleared)))
+      (cond (ltb p (K .n)) (w .top) (cond (ltb x (K .n)) (w .top) (cond (eqb cleared 0) (clearBit 32 (w .top) (c / 8)) (w .top))))
       stacks′
 
   bits′ : BitsAfter

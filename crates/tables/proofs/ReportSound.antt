@@ -16,7 +16,7 @@ use Rattle.ledger.proofs.Searches.{all-empty, highest-is, highest?}
 use Rattle.ledger.proofs.ByClass.{class-laws}
 use Rattle.tables.specs.Words.{Words, Edition}
 use Rattle.tables.specs.Search.{highBit}
-use Rattle.tables.specs.Questions.{reportClass, reportLeaf, reportTop, reportOf, reportWords}
+use Rattle.tables.specs.Questions.{reportClass, reportLeaf, reportTop, reportOf}
 use Rattle.tables.specs.Sound.{Sound}
 use Rattle.tables.specs.Claims.{Holds}
 use Rattle.tables.proofs.SoundOf.{passes, high-empty, shelf-of}
@@ -53,23 +53,23 @@ module _ (E : Edition) (w : Words) (l : Ledger Stacks) (S : Sound E w l) where
   report-more h = unfold report in rw (lt-ltb 1 (length (l .pile)) h)
 
   -- the words' report, by what the bits say
-  report-is : reportOf w ≡ reported (report by-class l .0) (report by-class l .1)
+  pub report-is : reportOf w ≡ reported (report by-class l .0) (report by-class l .1)
   report-is = go (same? (w .off) 0) (same? (w .top) 0)
     where
       shown : ℕ × ℕ → Answer
       shown x = reported (x .0) (x .1)
 
       more : w .off ≢ 0 → report by-class l ≡ (tally freeLen (l .line), highest (l .index) classesInUse)
-      more d = report-more (omega (arith, S .spares))
+      more d = report-more (omega (arith, S .spare .spares))
 
       go : Same (w .off) 0 → Same (w .top) 0 → reportOf w ≡ shown (report by-class l)
       go (same z e) k =
           let read : reportOf w ≡ reported 0 0 = unfold reportOf in rw e in
-          read ∙ sym (ap shown (report-one-spare by-class class-laws l (omega (arith, S .spares))))
+          read ∙ sym (ap shown (report-one-spare by-class class-laws l (omega (arith, S .spare .spares))))
       go (differ z e) (same t q) =
           let read : reportOf w ≡ reported (w .total) 0 = unfold reportOf in rw (e, q) in
-          read ∙ ap₂ reported (S .sum) (sym (highest-none (top-none E w l S t))) ∙ sym (ap shown (more z))
-      go (differ z e) (differ t q) = read ∙ ap₂ reported (S .sum) (sym (highest-of topClass best)) ∙ sym (ap shown (more z))
+          read ∙ ap₂ reported (S .total) (sym (highest-none (top-none E w l S t))) ∙ sym (ap shown (more z))
+      go (differ z e) (differ t q) = read ∙ ap₂ reported (S .total) (sym (highest-of topClass best)) ∙ sym (ap shown (more z))
         where
           best : Greatest (λ d. Holds l d) topClass
           best = top-some E w l S (omega arith)
@@ -84,7 +84,3 @@ module _ (E : Edition) (w : Words) (l : Ledger Stacks) (S : Sound E w l) where
             ne-eqb (getD (w .leaves) (highBit (w .top)) 0) 0 not-zero,
             lt-ltb topClass classesInUse (in-use topClass (best .0)),
           )
-
-  pub report-sound : (reportWords E w .0 ≡ reported (report by-class l .0) (report by-class l .1)) × Sound E (reportWords E w .1) l
-  unfolding reportWords
-  report-sound = rw (passes E w l S (reportOf w, w)) (report-is, S)

@@ -4,7 +4,7 @@ use mathlib.Core.List.{List, [], _∷_, map}
 use Prim.Native.Nat.{ℕ, _^_, _≤_, _<_}
 use native.Mathlib.Omega.{arith}
 use Rattle.ledger.specs.Ledger.{Ledger, Answer, done, refused, setup, by-class, Stacks}
-use Rattle.ledger.specs.Calls.{Call, Take, HandBack, SizeOf, Report, FullReport, Reset, Event, event, callOf, answerOf, answer, end, answers, log}
+use Rattle.ledger.specs.Calls.{Question, SizeOf, Report, FullReport, Call, Take, HandBack, Reset, Ask, Event, event, callOf, answerOf, told, answer, end, answers, log}
 use Rattle.ledger.specs.WellFormed.{WellFormed}
 use Rattle.ledger.specs.Stretch.{Stretch}
 use Rattle.ledger.specs.Claims.{CanRefuse, too-few-spares, none-reaches, not-live, unknown}
@@ -15,14 +15,15 @@ use Rattle.ledger.proofs.Stretch.{stretch-restores}
 use Rattle.ledger.proofs.ByClass.{class-laws}
 use Rattle.tables.specs.Words.{Words, Edition}
 use Rattle.tables.specs.Setup.{Lent, setupWords}
-use Rattle.tables.specs.Calls.{answerWords, endWords, answersWords, logWords}
+use Rattle.tables.specs.Calls.{toldBy, behind, answerWords}
 use Rattle.tables.specs.Sound.{Sound}
+use Rattle.tables.proofs.Gate.{call-open}
 use Rattle.tables.proofs.SoundOf.{room-of}
 use Rattle.tables.proofs.TakeSound.{take-sound}
 use Rattle.tables.proofs.BackSound.{back-sound}
-use Rattle.tables.proofs.SizeSound.{size-sound}
-use Rattle.tables.proofs.ReportSound.{report-sound}
-use Rattle.tables.proofs.FullReportSound.{full-sound}
+use Rattle.tables.proofs.SizeSound.{length-is-told}
+use Rattle.tables.proofs.ReportSound.{report-is}
+use Rattle.tables.proofs.FullReportSound.{full-is}
 use Rattle.tables.proofs.Refusals.{setup-done}
 use Rattle.tables.proofs.SetupSound.{setup-sound, reset-sound}
 
@@ -34,16 +35,23 @@ below-6 unknown = omega arith
 
 module _ (E : Edition) where
   -- ---- one call
+  opened : (w : Words) (l : Ledger Stacks) → Sound E w l → (c : Call) → answerWords E c w ≡ behind E c w
+  opened w l S c = call-open E c w (room-of E w l S)
+
+  question-sound : (w : Words) (l : Ledger Stacks) → Sound E w l → (q : Question) → toldBy w q ≡ told by-class (w .size) (w .count) q l
+  unfolding toldBy told
+  question-sound w l S (SizeOf span) = length-is-told E w l S (span .number)
+  question-sound w l S Report = report-is E w l S
+  question-sound w l S FullReport = full-is E w l S
+
   pub call-sound : (w : Words) (l : Ledger Stacks) → Sound E w l → (c : Call)
       → (answerWords E c w .0 ≡ answer by-class (w .size) (w .count) c l .0)
       × Sound E (answerWords E c w .1) (answer by-class (w .size) (w .count) c l .1)
-  unfolding answerWords answer
-  call-sound w l S (Take s) = take-sound E w l S s
-  call-sound w l S (HandBack r) = back-sound E w l S r
-  call-sound w l S (SizeOf r) = size-sound E w l S r
-  call-sound w l S Report = report-sound E w l S
-  call-sound w l S FullReport = full-sound E w l S
-  call-sound w l S Reset = reset-sound E w (S .size-fits) (room-of E w l S)
+  unfolding answer
+  call-sound w l S (Take asked) = rw (opened w l S (Take asked)) (unfold behind in take-sound E w l S (asked .size))
+  call-sound w l S (HandBack span) = rw (opened w l S (HandBack span)) (unfold behind in back-sound E w l S (span .number))
+  call-sound w l S Reset = reset-sound E w (S .room .of-head .size-fits) (room-of E w l S)
+  call-sound w l S (Ask q) = rw (opened w l S (Ask q)) (unfold behind in (question-sound w l S q, S))
 
   -- the ledger gives no refusal from 6 on, so the words do not
   pub never-6 : (w : Words) (l : Ledger Stacks) → Sound E w l → (c : Call) → ¬ (answerWords E c w .0 ≡ refused 6)
@@ -60,9 +68,9 @@ module _ (E : Edition) where
 
   -- the log of a run has its answers, and the words at its end stand for the ledger at its end
   run-sound : (size count : ℕ) → 2 ≤ count → (cs : List Call) (w : Words) (l : Ledger Stacks) → WellFormed by-class size count l → Sound E w l
-      → (answersWords E cs w ≡ answers by-class size count cs l) × (logWords E cs w ≡ log by-class size count cs l)
-      × Sound E (endWords E cs w) (end by-class size count cs l)
-  unfolding answersWords logWords endWords answers log end
+      → (answers (answerWords E) cs w ≡ answers (answer by-class size count) cs l) × (log (answerWords E) cs w ≡ log (answer by-class size count) cs l)
+      × Sound E (end (answerWords E) cs w) (end (answer by-class size count) cs l)
+  unfolding answers log end
   run-sound size count two [] w l f S = (refl, refl, S)
   run-sound size count two (c ∷ cs) w l f S =
       let this = step-sound size count c w l f S in
@@ -71,46 +79,36 @@ module _ (E : Edition) where
       (ap₂ {C = List Answer} _∷_ (this .0) (rest .0), ap₂ {C = List Event} _∷_ (ap (event c) (this .0)) (rest .1), rest .2)
 
   -- on any words the log has the calls and the answers
-  pub log-calls : (cs : List Call) (w : Words) → map callOf (logWords E cs w) ≡ cs
-  unfolding logWords
-  log-calls [] w = refl
-  log-calls (c ∷ cs) w = ap (λ (xs : List Call). c ∷ xs) (log-calls cs (answerWords E c w .1))
-
-  pub log-answers : (cs : List Call) (w : Words) → map answerOf (logWords E cs w) ≡ answersWords E cs w
-  unfolding logWords answersWords
-  log-answers [] w = refl
-  log-answers (c ∷ cs) w = ap (λ (xs : List Answer). answerWords E c w .0 ∷ xs) (log-answers cs (answerWords E c w .1))
-
   -- words that stand for one ledger answer alike for ever, whatever their spare records hold
-  pub alike : (w v : Words) (l : Ledger Stacks) → Sound E w l → Sound E v l → (cs : List Call) → answersWords E cs w ≡ answersWords E cs v
+  pub alike : (w v : Words) (l : Ledger Stacks) → Sound E w l → Sound E v l → (cs : List Call) → answers (answerWords E) cs w ≡ answers (answerWords E) cs v
   alike w v l S T cs =
-      run-sound (w .size) (w .count) (S .count-low) cs w l (S .well) S .0
-      ∙ sym (run-sound (w .size) (w .count) (S .count-low) cs v l (S .well) T .0)
+      run-sound (w .size) (w .count) (S .room .tables .count-low) cs w l (S .well) S .0
+      ∙ sym (run-sound (w .size) (w .count) (S .room .tables .count-low) cs v l (S .well) T .0)
 
   -- ---- from an accepted setup on
-  pub demand-2 : (size count : ℕ) (lent : Lent) → size < 2 ^ 32 → setupWords E size count lent .0 ≡ done → (cs : List Call)
-      → (answersWords E cs (setupWords E size count lent .1) ≡ answers by-class size count cs (setup by-class size count))
-      × Sound E (endWords E cs (setupWords E size count lent .1)) (end by-class size count cs (setup by-class size count))
-  demand-2 size count lent small accepted cs =
-      let two : 2 ≤ count = setup-done E size count lent .0 accepted .count-low in
+  pub demand-2 : (size count : ℕ) (lent : Lent) → setupWords E size count lent .0 ≡ done → (cs : List Call)
+      → (answers (answerWords E) cs (setupWords E size count lent .1) ≡ answers (answer by-class size count) cs (setup by-class size count))
+      × Sound E (end (answerWords E) cs (setupWords E size count lent .1)) (end (answer by-class size count) cs (setup by-class size count))
+  demand-2 size count lent accepted cs =
+      let two : 2 ≤ count = setup-done E size count lent .0 accepted .1 .count-low in
       let run = run-sound size count two cs (setupWords E size count lent .1) (setup by-class size count)
       (setup-well by-class class-laws size count two)
-      (setup-sound E size count lent small accepted) in
+      (setup-sound E size count lent accepted) in
       (run .0, run .2)
 
   -- the ledger is the same after the stretch, so the words on both sides of it stand for one ledger
-  stretch-alike : (w : Words) (l : Ledger Stacks) → Sound E w l → (cs : List Call) → Stretch [] (logWords E cs w) → (later-calls : List Call)
-      → answersWords E later-calls (endWords E cs w) ≡ answersWords E later-calls w
+  stretch-alike : (w : Words) (l : Ledger Stacks) → Sound E w l → (cs : List Call) → Stretch [] (log (answerWords E) cs w) → (later-calls : List Call)
+      → answers (answerWords E) later-calls (end (answerWords E) cs w) ≡ answers (answerWords E) later-calls w
   stretch-alike w l S cs h later-calls =
-      let run = run-sound (w .size) (w .count) (S .count-low) cs w l (S .well) S in
+      let run = run-sound (w .size) (w .count) (S .room .tables .count-low) cs w l (S .well) S in
       let restored = stretch-restores by-class class-laws (w .size) (w .count) cs l (S .well) (subst (Stretch []) (run .1) h) in
-      alike (endWords E cs w) w l (subst (Sound E (endWords E cs w)) restored (run .2)) S later-calls
+      alike (end (answerWords E) cs w) w l (subst (Sound E (end (answerWords E) cs w)) restored (run .2)) S later-calls
 
-  pub demand-3 : (size count : ℕ) (lent : Lent) → size < 2 ^ 32 → setupWords E size count lent .0 ≡ done → (before : List Call)
-      → (cs : List Call) → Stretch [] (logWords E cs (endWords E before (setupWords E size count lent .1)))
+  pub demand-3 : (size count : ℕ) (lent : Lent) → setupWords E size count lent .0 ≡ done → (before : List Call)
+      → (cs : List Call) → Stretch [] (log (answerWords E) cs (end (answerWords E) before (setupWords E size count lent .1)))
       → (later-calls : List Call)
-      → answersWords E later-calls (endWords E cs (endWords E before (setupWords E size count lent .1)))
-      ≡ answersWords E later-calls (endWords E before (setupWords E size count lent .1))
-  demand-3 size count lent small accepted before cs h later-calls =
-      stretch-alike (endWords E before (setupWords E size count lent .1)) (end by-class size count before (setup by-class size count))
-      (demand-2 size count lent small accepted before .1) cs h later-calls
+      → answers (answerWords E) later-calls (end (answerWords E) cs (end (answerWords E) before (setupWords E size count lent .1)))
+      ≡ answers (answerWords E) later-calls (end (answerWords E) before (setupWords E size count lent .1))
+  demand-3 size count lent accepted before cs h later-calls =
+      stretch-alike (end (answerWords E) before (setupWords E size count lent .1)) (end (answer by-class size count) before (setup by-class size count))
+      (demand-2 size count lent accepted before .1) cs h later-calls

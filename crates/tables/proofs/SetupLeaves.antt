@@ -12,11 +12,12 @@ use Rattle.ledger.specs.Calls.{Reset}
 use Rattle.tables.specs.Layout.{binPrev, used, pileNeeded}
 use Rattle.tables.specs.Words.{Words, Edition, bounds}
 use Rattle.tables.specs.Steps.{insertAt, insert, popPile}
-use Rattle.tables.specs.Gate.{gate, gateOf}
+use Rattle.tables.specs.Gate.{setupGate, gateOf}
 use Rattle.tables.specs.Setup.{Lent, blank, fresh, zeros, setupWords}
-use Rattle.tables.specs.Calls.{answerWords}
-use Rattle.tables.specs.Reach.{Room, LeftAlone}
-use Rattle.tables.proofs.Gate.{open-has-room, gate-has-room}
+use Rattle.tables.specs.Calls.{behind, answerWords}
+use Rattle.tables.specs.Room.{Room}
+use Rattle.tables.specs.Reach.{LeftAlone}
+use Rattle.tables.proofs.Gate.{setup-has-room, gate-has-room}
 use Rattle.tables.proofs.PlanEnds.{gated-ends}
 use Rattle.tables.proofs.Untouched.{insert-elsewhere, insert-nodes-length, wiped-elsewhere, piled-beyond}
 use Rattle.tables.proofs.Wiped.{length-wiped, length-piled}
@@ -68,9 +69,9 @@ module _ (E : Edition) (size count : ℕ) (lent : Lent) where
       → f (setupWords E size count lent .1) ≡ f (zeros lent)
   unfolding setupWords
   setup-keeps f h =
-      gated-ends (λ (x : Answer × Words). f (x .1) ≡ f (zeros lent)) (gate E 1 count (length (lent .nodes)) (length (lent .pile)))
+      gated-ends (λ (x : Answer × Words). f (x .1) ≡ f (zeros lent)) (setupGate E size count (length (lent .nodes)) (length (lent .pile)))
       (zeros lent) (done, fresh E size count (lent .nodes) (lent .pile)) (λ k. refl)
-      (λ e. h (open-has-room E 0 count (length (lent .nodes)) (length (lent .pile)) e))
+      (λ e. h (setup-has-room E size count (length (lent .nodes)) (length (lent .pile)) e))
 
   pub setup-leaves : (i : ℕ) → LeftAlone count i → getD (setupWords E size count lent .1 .nodes) i 0 ≡ getD (lent .nodes) i 0
   setup-leaves i alone = setup-keeps (λ w. getD (w .nodes) i 0) (λ room. fresh-leaves E size count (lent .nodes) (lent .pile) room i alone)
@@ -96,7 +97,7 @@ module _ (E : Edition) (size count : ℕ) (lent : Lent) where
 
 pub reset-leaves : (E : Edition) (w : Words) (i : ℕ) → LeftAlone (w .count) i
     → getD (answerWords E Reset w .1 .nodes) i 0 ≡ getD (w .nodes) i 0
-unfolding answerWords
+unfolding answerWords behind
 reset-leaves E w i alone =
     gated-ends (λ (x : Answer × Words). getD (x .1 .nodes) i 0 ≡ getD (w .nodes) i 0) (gateOf E w) w
     (done, fresh E (w .size) (w .count) (w .nodes) (w .pile)) (λ k. refl)

@@ -1,7 +1,7 @@
 -- Setup and reset: whatever the words held, what they leave is sound and stands for the ledger's setup. Assumes nothing.
 use mathlib.Core.Path.{_≡_, refl, ap, sym, _∙_, subst}
 use mathlib.Core.List.{List, [], _∷_}
-use Prim.Native.Nat.{ℕ, suc, _+_, _-_, _^_, _<_}
+use Prim.Native.Nat.{ℕ, suc, _+_, _-_, _^_, _<_, _≤_}
 use native.Mathlib.Omega.{arith}
 use lib.Dec.{ltb}
 use lib.ListN.{length, getD, replicate, length-replicate, getD-replicate}
@@ -17,11 +17,11 @@ use Rattle.tables.specs.Words.{Words, Edition, Bounds}
 use Rattle.tables.specs.Steps.{insertAt, insert, popPile}
 use Rattle.tables.specs.Gate.{gateOf}
 use Rattle.tables.specs.Setup.{Lent, piled, blank, fresh, setupWords}
-use Rattle.tables.specs.Calls.{answerWords}
+use Rattle.tables.specs.Calls.{behind, answerWords}
 use Rattle.tables.specs.Linked.{stackOf, mask, nonZero}
 use Rattle.tables.specs.Sound.{Sound}
-use Rattle.tables.specs.Reach.{Room}
-use Rattle.tables.proofs.Gate.{room-opens, gated-open}
+use Rattle.tables.specs.Room.{Room}
+use Rattle.tables.proofs.Gate.{room-opens, gated-open, call-open}
 use Rattle.tables.proofs.Masks.{mask-same, nonZero-zero}
 use Rattle.tables.proofs.Shelf.{Shelf}
 use Rattle.tables.proofs.Steps.{pop-shelf}
@@ -31,7 +31,7 @@ use Rattle.tables.proofs.Place.{Gap, placed}
 use Rattle.tables.proofs.SoundOf.{sound-from}
 
 -- ---- the fresh words
-module _ (E : Edition) (size count : ℕ) (nodes pile : List ℕ) (size-fits : size < 2 ^ 32) (R : Room E count (length nodes) (length pile)) where
+module _ (E : Edition) (size count : ℕ) (nodes pile : List ℕ) (size-fits : size ≤ E .greatest) (R : Room E count (length nodes) (length pile)) where
   abbrev K : Bounds
   K = record { n = count; none = E .none }
 
@@ -99,21 +99,18 @@ module _ (E : Edition) (size count : ℕ) (nodes pile : List ℕ) (size-fits : s
   fresh-sound = sound-from E (fresh E size count nodes pile) size (setup by-class size count) size count refl refl
       (R .count-low) (R .count-high) size-fits (setup-well by-class class-laws size count (R .count-low))
       (placed K (popPile (blank E size count nodes pile)) [] [] (λ c. []) others 0 size 0 (E .none) (E .none) fresh-gap
-      (omega (arith, down-most size size-fits)) refl refl refl)
+      (omega (arith, down-most size (omega (arith, E .fits)))) refl refl refl)
       (omega arith)
 
 -- ---- the calls
 module _ (E : Edition) where
-  pub setup-sound : (size count : ℕ) (lent : Lent) → size < 2 ^ 32 → setupWords E size count lent .0 ≡ done
+  pub setup-sound : (size count : ℕ) (lent : Lent) → setupWords E size count lent .0 ≡ done
       → Sound E (setupWords E size count lent .1) (setup by-class size count)
-  setup-sound size count lent small e =
+  setup-sound size count lent e =
       let room = setup-done E size count lent .0 e in
-      rw (setup-opens E size count lent room) (fresh-sound E size count (lent .nodes) (lent .pile) small room)
+      rw (setup-opens E size count lent (room .0) (room .1)) (fresh-sound E size count (lent .nodes) (lent .pile) (room .0) (room .1))
 
-  pub reset-sound : (w : Words) → w .size < 2 ^ 32 → Room E (w .count) (length (w .nodes)) (length (w .pile))
+  pub reset-sound : (w : Words) → w .size ≤ E .greatest → Room E (w .count) (length (w .nodes)) (length (w .pile))
       → (answerWords E Reset w .0 ≡ done) × Sound E (answerWords E Reset w .1) (setup by-class (w .size) (w .count))
-  unfolding answerWords
-  reset-sound w small R =
-      let opened = room-opens E 6 (w .count) (length (w .nodes)) (length (w .pile)) R in
-      rw (gated-open (gateOf E w) w (done, fresh E (w .size) (w .count) (w .nodes) (w .pile)) (unfold gateOf in opened))
-      (refl, fresh-sound E (w .size) (w .count) (w .nodes) (w .pile) small R)
+  unfolding behind
+  reset-sound w small R = rw (call-open E Reset w R) (refl, fresh-sound E (w .size) (w .count) (w .nodes) (w .pile) small R)

@@ -35,7 +35,7 @@ valueAt E size (suc (suc (suc (suc (suc (suc i)))))) = 0
 
 setup-count : (E : Edition) (size count : ℕ) (lent : Lent) → setupWords E size count lent .0 ≡ done → setupWords E size count lent .1 .count ≡ count
 setup-count E size count lent p =
-    ap (λ (o : Answer × Words). o .1 .count) (setup-opens E size count lent (setup-done E size count lent .0 p))
+    ap (λ (o : Answer × Words). o .1 .count) (setup-opens E size count lent (setup-done E size count lent .0 p .0) (setup-done E size count lent .0 p .1))
     ∙ unfold fresh insert insertAt popPile blank in refl
 
 module _ (E : Edition) (size count : ℕ) (w : Words) (counted : w .count ≡ count) (S : Sound E w (setup by-class size count)) where
@@ -45,15 +45,15 @@ module _ (E : Edition) (size count : ℕ) (w : Words) (counted : w .count ≡ co
 
   listed : Linked (word (w .nodes) binNext) (word (w .nodes) binPrev) (E .none) (0 ∷ []) (E .none)
   unfolding setup
-  listed = subst (λ (xs : List ℕ). Linked (word (w .nodes) binNext) (word (w .nodes) binPrev) (E .none) xs (E .none)) own-class (S .lists (down size))
+  listed = subst (λ (xs : List ℕ). Linked (word (w .nodes) binNext) (word (w .nodes) binPrev) (E .none) xs (E .none)) own-class (S .lists .lists (down size))
 
   marks : (r : ℕ) → r < count → word (w .nodes) used r ≡ 0
   unfolding setup
   marks r l = go (same? r 0)
     where
       go : Same r 0 → word (w .nodes) used r ≡ 0
-      go (same e t) = rw e (S .reads .2)
-      go (differ e t) = S .dead r (omega (
+      go (same e t) = rw e (S .line .reads .2)
+      go (differ e t) = S .spare .dead r (omega (
         arith,
         S .well .lined .once r,
         ap one (lt-ltb r (w .count) (omega (arith, counted))),
@@ -62,13 +62,13 @@ module _ (E : Edition) (size count : ℕ) (w : Words) (counted : w .count ≡ co
 
   first-seven : (i : ℕ) → i < 7 → getD (w .nodes) i 0 ≡ valueAt E size i
   unfolding word setup valueAt
-  first-seven zero l = S .reads .0
-  first-seven (suc zero) l = S .reads .1
+  first-seven zero l = S .line .reads .0
+  first-seven (suc zero) l = S .line .reads .1
   first-seven (suc (suc zero)) l = listed .0
   first-seven (suc (suc (suc zero))) l = listed .1
-  first-seven (suc (suc (suc (suc zero)))) l = S .chain .0
-  first-seven (suc (suc (suc (suc (suc zero))))) l = S .chain .1
-  first-seven (suc (suc (suc (suc (suc (suc zero)))))) l = S .reads .2
+  first-seven (suc (suc (suc (suc zero)))) l = S .line .chain .0
+  first-seven (suc (suc (suc (suc (suc zero))))) l = S .line .chain .1
+  first-seven (suc (suc (suc (suc (suc (suc zero)))))) l = S .line .reads .2
   first-seven (suc (suc (suc (suc (suc (suc (suc i))))))) l = absurd (omega arith)
 
   marked : (i : ℕ) → i < nodesNeeded count → i % 8 ≡ used → getD (w .nodes) i 0 ≡ 0
@@ -78,10 +78,10 @@ module _ (E : Edition) (size count : ℕ) (w : Words) (counted : w .count ≡ co
       ap (λ (j : ℕ). getD (w .nodes) j 0) place ∙ marks (i / 8) (omega arith)
 
 -- of two setups alike, each on tables of its own, every word that was written is the same
-pub setup-fixed : (E : Edition) (size count : ℕ) (a b : Lent) → size < 2 ^ 32
+pub setup-fixed : (E : Edition) (size count : ℕ) (a b : Lent)
     → setupWords E size count a .0 ≡ done → setupWords E size count b .0 ≡ done → (i : ℕ) → Written count i
     → getD (setupWords E size count a .1 .nodes) i 0 ≡ getD (setupWords E size count b .1 .nodes) i 0
-setup-fixed E size count a b small p q i = go
+setup-fixed E size count a b p q i = go
   where
     v : Words
     v = setupWords E size count a .1
@@ -91,16 +91,16 @@ setup-fixed E size count a b small p q i = go
 
     go : Written count i → getD (v .nodes) i 0 ≡ getD (u .nodes) i 0
     go (inl l) =
-        first-seven E size count v (setup-count E size count a p) (setup-sound E size count a small p) i l
-        ∙ sym (first-seven E size count u (setup-count E size count b q) (setup-sound E size count b small q) i l)
+        first-seven E size count v (setup-count E size count a p) (setup-sound E size count a p) i l
+        ∙ sym (first-seven E size count u (setup-count E size count b q) (setup-sound E size count b q) i l)
     go (inr h) =
-        marked E size count v (setup-count E size count a p) (setup-sound E size count a small p) i (h .0) (h .1)
-        ∙ sym (marked E size count u (setup-count E size count b q) (setup-sound E size count b small q) i (h .0) (h .1))
+        marked E size count v (setup-count E size count a p) (setup-sound E size count a p) i (h .0) (h .1)
+        ∙ sym (marked E size count u (setup-count E size count b q) (setup-sound E size count b q) i (h .0) (h .1))
 
 -- and so is every word of the pile
 pub setup-pile-fixed : (E : Edition) (size count : ℕ) (lent : Lent) → setupWords E size count lent .0 ≡ done → (i : ℕ) → i < count
     → getD (setupWords E size count lent .1 .pile) i 0 ≡ count - i - 1
 setup-pile-fixed E size count lent p i l =
     let room = setup-done E size count lent .0 p in
-    ap (λ (o : Answer × Words). getD (o .1 .pile) i 0) (setup-opens E size count lent room)
-    ∙ unfold fresh insert insertAt popPile blank in piled-word count count (lent .pile) i (room .pile-room) l
+    ap (λ (o : Answer × Words). getD (o .1 .pile) i 0) (setup-opens E size count lent (room .0) (room .1))
+    ∙ unfold fresh insert insertAt popPile blank in piled-word count count (lent .pile) i (room .1 .pile-room) l

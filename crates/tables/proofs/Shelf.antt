@@ -24,7 +24,7 @@ Bin nodes p xs y = Linked (word nodes binNext) (word nodes binPrev) p xs y
 abbrev pub Held : (n : ℕ) → (ℕ → List ℕ) → List ℕ → Type 0
 Held n stacks spare = (c r : ℕ) → tally (is r) (stacks c) + tally (is r) spare ≤ one (ltb r n)
 
-pub record ListsStand (none : ℕ) (nodes heads : List ℕ) (stacks : ℕ → List ℕ) : Type 0 where
+pub record Listed (none : ℕ) (nodes heads : List ℕ) (stacks : ℕ → List ℕ) : Type 0 where
   pub heads-room : length heads ≡ 256
   pub class-is : (c r : ℕ) → In r (stacks c) → down (word nodes dataSize r) ≡ c
   pub class-low : (c r : ℕ) → In r (stacks c) → c < 256
@@ -35,7 +35,7 @@ pub record Shelf (K : Bounds) (w : Words) (stacks : ℕ → List ℕ) (spare : L
   pub small : K .n ≤ K .none
   pub nodes-room : nodesNeeded (K .n) ≤ length (w .nodes)
   pub held : Held (K .n) stacks spare
-  pub in-lists : ListsStand (K .none) (w .nodes) (w .heads) stacks
+  pub in-lists : Listed (K .none) (w .nodes) (w .heads) stacks
   pub on-pile : SparesStand (K .n) (w .off) (w .pile) spare
   pub in-bits : Bits (w .leaves) (w .top) stacks
 

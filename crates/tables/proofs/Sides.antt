@@ -1,7 +1,7 @@
 -- The two sides of a region that is handed back: what the plan reads of the neighbour there is what the ledger says of that side, and where it
 -- is free the gap grows over it. Assumes nothing.
 use mathlib.Core.Path.{_≡_, refl, ap, sym, _∙_, subst}
-use mathlib.Core.Bool.{Bool, true, false}
+use mathlib.Core.Bool.{Bool, true, false, cond}
 use mathlib.Core.List.{List, [], _∷_, _++_, reverse, reverse-cons}
 use Prim.Native.Nat.{ℕ, _+_, _≤_, _<_}
 use native.Mathlib.Nat.{zero-add, add-zero}
@@ -15,7 +15,7 @@ use Rattle.small_float.specs.Class.{down}
 use Rattle.ledger.specs.Ledger.{Region, live, free, len, rec, without, Side, beside, stands, by-class, Stacks}
 use Rattle.ledger.specs.WellFormed.{has}
 use Rattle.ledger.proofs.KeptStacks.{stands-own}
-use Rattle.tables.specs.Layout.{pick, dataOffset, dataSize, neighborPrev, neighborNext, used, word}
+use Rattle.tables.specs.Layout.{dataOffset, dataSize, neighborPrev, neighborNext, used, word}
 use Rattle.tables.specs.Words.{Words, Edition, bounds}
 use Rattle.tables.specs.Steps.{unlink, pushPile}
 use Rattle.tables.specs.HandBack.{isFree, dropIf}
@@ -64,9 +64,9 @@ module _ (E : Edition) (w : Words) (r n : ℕ) where
   -- ---- the side before, as the ledger reads it
   pub record SideBefore (before after : List Region) (b : Side Stacks) (spare : List ℕ) (p : ℕ) : Type 0 where
     pub free-is : isFree (w .nodes) (w .count) p ≡ opens before
-    pub length-is : pick (opens before) (word (w .nodes) dataSize p) 0 ≡ b .added
-    pub start-is : pick (opens before) (word (w .nodes) dataOffset p) (word (w .nodes) dataOffset r) ≡ tally len (reverse (b .rest))
-    pub link-is : pick (opens before) (word (w .nodes) neighborPrev p) p ≡ last (E .none) (recs (reverse (b .rest)))
+    pub length-is : cond (opens before) (word (w .nodes) dataSize p) 0 ≡ b .added
+    pub start-is : cond (opens before) (word (w .nodes) dataOffset p) (word (w .nodes) dataOffset r) ≡ tally len (reverse (b .rest))
+    pub link-is : cond (opens before) (word (w .nodes) neighborPrev p) p ≡ last (E .none) (recs (reverse (b .rest)))
     pub gap-is : Gap (bounds E w) (dropIf (bounds E w) (opens before) p w) (reverse (b .rest)) after
         (b .index) (b .owed ++ spare) r (b .added + n)
 
@@ -129,8 +129,8 @@ module _ (E : Edition) (w : Words) (r n : ℕ) where
   -- ---- the side after, where the words v are what the side before has left
   pub record SideAfter (v : Words) (xs after : List Region) (a : Side Stacks) (spare : List ℕ) (s x : ℕ) : Type 0 where
     pub free-is : isFree (w .nodes) (w .count) x ≡ opens after
-    pub length-is : pick (opens after) (word (w .nodes) dataSize x) 0 ≡ a .added
-    pub link-is : pick (opens after) (word (w .nodes) neighborNext x) x ≡ first (recs (a .rest)) (E .none)
+    pub length-is : cond (opens after) (word (w .nodes) dataSize x) 0 ≡ a .added
+    pub link-is : cond (opens after) (word (w .nodes) neighborNext x) x ≡ first (recs (a .rest)) (E .none)
     pub gap-is : Gap (bounds E w) (dropIf (bounds E w) (opens after) x v) xs (a .rest)
         (a .index) (a .owed ++ spare) r (s + a .added)
 

@@ -1,6 +1,6 @@
 -- The words know which records are live: a size query on sound words answers as the ledger. Assumes nothing.
 use mathlib.Core.Path.{_≡_, ap, sym, _∙_}
-use mathlib.Core.Bool.{true, false}
+use mathlib.Core.Bool.{true, false, cond}
 use mathlib.Core.List.{List, []}
 use Prim.Native.Nat.{ℕ, _<_}
 use native.Mathlib.Omega.{arith}
@@ -15,10 +15,10 @@ use Rattle.ledger.proofs.Places.{Between, sum-at, between-at}
 use Rattle.ledger.proofs.Find.{Found, missing, at, found?}
 use Rattle.ledger.proofs.Cases.{LiveCase, is-live, not-live, live-case}
 use Rattle.ledger.proofs.ByClass.{class-laws}
-use Rattle.tables.specs.Layout.{pick, dataSize, used, word}
+use Rattle.tables.specs.Layout.{dataSize, used, word}
 use Rattle.tables.specs.Words.{Words, Edition}
 use Rattle.tables.specs.HandBack.{isLive}
-use Rattle.tables.specs.Questions.{sizeWords}
+use Rattle.tables.specs.Questions.{lengthOf}
 use Rattle.tables.specs.Sound.{Sound}
 use Rattle.tables.proofs.Lines.{reads-at}
 use Rattle.tables.proofs.SoundOf.{passes}
@@ -34,24 +34,23 @@ module _ (E : Edition) (w : Words) (l : Ledger Stacks) (S : Sound E w l) (r : �
     where
       go : Found r [] (l .line) → isLive (w .nodes) (w .count) r ≡ false
       go (missing m z) = elim (below? r (w .count)) [
-        | below k e ↦ unmarked (S .dead r (omega (arith, S .well .lined .once r, ap one e)))
+        | below k e ↦ unmarked (S .spare .dead r (omega (arith, S .well .lined .once r, ap one e)))
         | beyond k e ↦ unfold isLive in rw e
       ]
       go (at before (free n q) after m b e z) =
-          unmarked (ap (word (w .nodes) used) (sym e) ∙ reads-at (w .nodes) b (S .reads) .1 .2)
+          unmarked (ap (word (w .nodes) used) (sym e) ∙ reads-at (w .nodes) b (S .line .reads) .1 .2)
       go (at before (live n q) after m b e z) = absurd (h (n, tally len before, between-at (rw e at b)))
 
   -- ---- a record that is
   pub known-live : {n : ℕ} {before after : List Region} → Between before (live n r) after (l .line) → isLive (w .nodes) (w .count) r ≡ true
   known-live place =
       let r-below : r < w .count = one-below r (w .count) (omega (arith, S .well .lined .once r, sum-at place (has r), is-own r)) in
-      unfold isLive in rw (lt-ltb r (w .count) r-below, reads-at (w .nodes) place (S .reads) .1 .2)
+      unfold isLive in rw (lt-ltb r (w .count) r-below, reads-at (w .nodes) place (S .line .reads) .1 .2)
 
-  pub size-sound : (sizeWords E w r .0 ≡ sizeOf r l) × Sound E (sizeWords E w r .1) l
-  unfolding sizeWords
-  size-sound = rw (passes E w l S (pick (isLive (w .nodes) (w .count) r) (length-is (word (w .nodes) dataSize r)) (refused 5), w))
-      (go (live-case by-class (S .well) r), S)
+  pub length-is-told : lengthOf w r ≡ sizeOf r l
+  unfolding lengthOf
+  length-is-told = go (live-case by-class (S .well) r)
     where
-      go : LiveCase by-class r l → pick (isLive (w .nodes) (w .count) r) (length-is (word (w .nodes) dataSize r)) (refused 5) ≡ sizeOf r l
-      go (is-live n before after place e q) = rw (known-live place, q, reads-at (w .nodes) place (S .reads) .1 .1)
+      go : LiveCase by-class r l → cond (isLive (w .nodes) (w .count) r) (length-is (word (w .nodes) dataSize r)) (refused 5) ≡ sizeOf r l
+      go (is-live n before after place e q) = rw (known-live place, q, reads-at (w .nodes) place (S .line .reads) .1 .1)
       go (not-live h e q) = rw (known-idle h, q)

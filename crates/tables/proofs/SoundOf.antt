@@ -18,7 +18,7 @@ use Rattle.tables.specs.Layout.{dataSize, word}
 use Rattle.tables.specs.Words.{Words, Edition, bounds, withTotal}
 use Rattle.tables.specs.Gate.{gateOf, gated}
 use Rattle.tables.specs.Sound.{Sound}
-use Rattle.tables.specs.Reach.{Room}
+use Rattle.tables.specs.Room.{Room}
 use Rattle.tables.proofs.Gate.{room-opens, gated-open}
 use Rattle.tables.proofs.Lines.{reads-at}
 use Rattle.tables.proofs.Shelf.{Shelf}
@@ -26,7 +26,7 @@ use Rattle.tables.proofs.Place.{Standing}
 
 module _ (E : Edition) (w : Words) (l : Ledger Stacks) (S : Sound E w l) where
   pub room-of : Room E (w .count) (length (w .nodes)) (length (w .pile))
-  room-of = record { count-low = S .count-low; count-high = S .count-high; nodes-room = S .nodes-room; pile-room = S .pile-room }
+  room-of = S .room .tables
 
   -- so the gate is open
   pub passes : (o : Answer × Words) → gated (gateOf E w) w o ≡ o
@@ -34,7 +34,7 @@ module _ (E : Edition) (w : Words) (l : Ledger Stacks) (S : Sound E w l) where
   passes o = gated-open (gateOf E w) w o (room-opens E 6 (w .count) (length (w .nodes)) (length (w .pile)) room-of)
 
   pub count-none : w .count ≤ E .none
-  count-none = omega (arith, S .count-high, E .small)
+  count-none = omega (arith, S .room .tables .count-high, E .small)
 
   -- a stack holds free regions of the line alone
   pub stacks-inside : (c q : ℕ) → tally (is q) (l .index c) ≤ tally (has q) (l .line)
@@ -44,9 +44,9 @@ module _ (E : Edition) (w : Words) (l : Ledger Stacks) (S : Sound E w l) where
   class-of : (c q : ℕ) → In q (l .index c) → (down (word (w .nodes) dataSize q) ≡ c) × (c < classesInUse)
   class-of c q h =
       let f = free-of (S .well) c q h in
-      let length-is = reads-at (w .nodes) (f .place) (S .reads) .1 .1 in
+      let length-is = reads-at (w .nodes) (f .place) (S .line .reads) .1 .1 in
       let in-store : f .n ≤ w .size = omega (arith, sum-at (f .place) len, S .well .lined .cover) in
-      (ap down length-is ∙ f .class-is, omega (arith, f .class-is, down-most (f .n) (omega (arith, S .size-fits))))
+      (ap down length-is ∙ f .class-is, omega (arith, f .class-is, down-most (f .n) (omega (arith, S .room .of-head .size-fits, E .fits))))
 
   pub high-empty : (c : ℕ) → classesInUse ≤ c → l .index c ≡ []
   high-empty c h = go (l .index c) refl
@@ -58,44 +58,45 @@ module _ (E : Edition) (w : Words) (l : Ledger Stacks) (S : Sound E w l) where
   pub shelf-of : Shelf (bounds E w) w (l .index) (l .pile)
   shelf-of = record {
     small = count-none;
-    nodes-room = S .nodes-room;
+    nodes-room = S .room .tables .nodes-room;
     held = λ c q. omega (arith, S .well .lined .once q, stacks-inside c q);
     in-lists = record {
-      heads-room = S .heads-room;
+      heads-room = S .room .of-head .heads-room;
       class-is = λ c q h. class-of c q h .0;
       class-low = λ c q h. omega (arith, class-of c q h .1);
-      lists = S .lists;
-      tops = S .tops;
+      lists = S .lists .lists;
+      tops = S .lists .tops;
     };
-    on-pile = record { pile-room = S .pile-room; piled = S .piled; spares = S .spares };
-    in-bits = record { leaves-room = S .leaves-room; leaf-bits = S .leaf-bits; top-bits = S .top-bits };
+    on-pile = record { pile-room = S .room .tables .pile-room; piled = S .spare .piled; spares = S .spare .spares };
+    in-bits = record { leaves-room = S .room .of-head .leaves-room; leaf-bits = S .bits .leaf-bits; top-bits = S .bits .top-bits };
   }
 
   pub standing : Standing (bounds E w) w (l .line) (l .index) (l .pile)
-  standing = record { shelf = shelf-of; reads = S .reads; chain = S .chain; dead = S .dead; once = S .well .lined .once }
+  standing = record { shelf = shelf-of; reads = S .line .reads; chain = S .line .chain; dead = S .spare .dead; once = S .well .lined .once }
 
 -- words of this size and count, in which a ledger in order stands, are sound with its true total
 pub sound-from : (E : Edition) (w : Words) (total : ℕ) (l : Ledger Stacks) (size count : ℕ) → w .size ≡ size → w .count ≡ count
-    → 2 ≤ count → count ≤ E .limit → size < 2 ^ 32 → WellFormed by-class size count l
+    → 2 ≤ count → count ≤ E .limit → size ≤ E .greatest → WellFormed by-class size count l
     → Standing record { n = count; none = E .none } w (l .line) (l .index) (l .pile) → total ≡ tally freeLen (l .line)
     → Sound E (withTotal w total) l
 sound-from E w total l size count size-is count-is low high fits well st sum = record {
-  count-low = rw count-is low;
-  count-high = rw count-is high;
-  size-fits = rw size-is fits;
-  nodes-room = rw count-is (st .shelf .nodes-room);
-  pile-room = rw count-is (st .shelf .on-pile .pile-room);
-  heads-room = st .shelf .in-lists .heads-room;
-  leaves-room = st .shelf .in-bits .leaves-room;
+  room = record {
+    tables = record {
+      count-low = rw count-is low;
+      count-high = rw count-is high;
+      nodes-room = rw count-is (st .shelf .nodes-room);
+      pile-room = rw count-is (st .shelf .on-pile .pile-room);
+    };
+    of-head = record {
+      size-fits = rw size-is fits;
+      heads-room = st .shelf .in-lists .heads-room;
+      leaves-room = st .shelf .in-bits .leaves-room;
+    };
+  };
   well = rw (size-is, count-is) well;
-  piled = st .shelf .on-pile .piled;
-  spares = st .shelf .on-pile .spares;
-  dead = st .dead;
-  reads = st .reads;
-  chain = st .chain;
-  lists = st .shelf .in-lists .lists;
-  tops = st .shelf .in-lists .tops;
-  leaf-bits = st .shelf .in-bits .leaf-bits;
-  top-bits = st .shelf .in-bits .top-bits;
-  sum = sum;
+  spare = record { piled = st .shelf .on-pile .piled; spares = st .shelf .on-pile .spares; dead = st .dead };
+  line = record { reads = st .reads; chain = st .chain };
+  lists = record { lists = st .shelf .in-lists .lists; tops = st .shelf .in-lists .tops };
+  bits = record { leaf-bits = st .shelf .in-bits .leaf-bits; top-bits = st .shelf .in-bits .top-bits };
+  total = sum;
 }

@@ -1,4 +1,5 @@
 -- A take on sound words answers as the ledger, and leaves words that stand for the ledger after it. Assumes nothing.
+use mathlib.Core.Bool.{cond}
 use mathlib.Core.Path.{_≡_, refl, ap, sym, _∙_, subst}
 use mathlib.Core.Logic.{inl, inr}
 use mathlib.Core.List.{List, [], _∷_, _++_, reverse, reverseAux-eq}
@@ -21,11 +22,11 @@ use Rattle.ledger.proofs.Records.{all-records}
 use Rattle.ledger.proofs.ClassCases.{Serving, TakeCase, few-spares, no-region, serves, take-case}
 use Rattle.ledger.proofs.CallsWell.{take-well}
 use Rattle.ledger.proofs.ByClass.{class-laws}
-use Rattle.tables.specs.Layout.{pick, dataOffset, word}
+use Rattle.tables.specs.Layout.{dataOffset, word}
 use Rattle.tables.specs.Words.{Words, Edition, bounds, withTotal}
 use Rattle.tables.specs.Steps.{insert, insertAt, unlinkAt, popPile}
 use Rattle.tables.specs.Search.{Found, class-is, no-class, findClass}
-use Rattle.tables.specs.Take.{stop, whole, split, planSpare, planRegion, planRecord, planClass, planTake, granting, splitting, doTake, takeWords}
+use Rattle.tables.specs.Take.{stop, whole, split, planSpare, planRegion, planRecord, planClass, planTake, granting, splitting, doTake}
 use Rattle.tables.specs.Linked.{first, Reads}
 use Rattle.tables.specs.Sound.{Sound}
 use Rattle.tables.specs.Claims.{Holds}
@@ -101,7 +102,7 @@ module _ (E : Edition) (w : Words) (l : Ledger Stacks) (S : Sound E w l) (s : �
     o-is = omega (arith, tally-reverseAux len (t .before) [])
 
     reads : Reads (w .nodes) (0 + tally len xs) (free n r ∷ t .after)
-    reads = reads-at (w .nodes) (t .place) (S .reads) .1
+    reads = reads-at (w .nodes) (t .place) (S .line .reads) .1
 
     offset-is : word (w .nodes) dataOffset r ≡ o
     offset-is = omega (arith, reads .0, o-is)
@@ -113,26 +114,26 @@ module _ (E : Edition) (w : Words) (l : Ledger Stacks) (S : Sound E w l) (s : �
     m-below = one-below m (w .count) (omega (arith, S .well .lined .once m, ap (tally (is m)) pile-is, is-own m))
 
     off-below : w .off < w .count
-    off-below = omega (arith, S .spares, all-records (S .well .lined), S .well .lined .some-region)
+    off-below = omega (arith, S .spare .spares, all-records (S .well .lined), S .well .lined .some-region)
 
     in-store : o + n ≤ w .size
     in-store = omega (arith, S .well .lined .cover, sum-at (t .place) len)
 
     in-total : n ≤ w .total
-    in-total = omega (arith, S .sum, sum-at (t .place) freeLen)
+    in-total = omega (arith, S .total, sum-at (t .place) freeLen)
 
     head-is : getD (w .heads) (down n) 0 ≡ r
-    head-is = S .tops (down n) (omega (arith, t .in-use)) ∙ ap (λ (xs : List ℕ). first xs (E .none)) (t .on-top)
+    head-is = S .lists .tops (down n) (omega (arith, t .in-use)) ∙ ap (λ (xs : List ℕ). first xs (E .none)) (t .on-top)
 
     spare-is : getD (w .pile) (w .off) 0 ≡ m
     spare-is = next-spare (w .count) (w .off) (w .pile) rest m
         (subst (SparesStand (w .count) (w .off) (w .pile)) pile-is (shelf-of E w l S .on-pile))
 
     -- ---- so the plan is
-    plan-is : planTake w s ≡ pick (eqb n s) (whole (down n) r o) (split (down n) r o (n - s) m)
+    plan-is : planTake w s ≡ cond (eqb n s) (whole (down n) r o) (split (down n) r o (n - s) m)
     unfolding planTake planClass planRecord planRegion planSpare
     plan-is = rw (
-      ne-eqb (w .off) 0 (omega (arith, S .spares, t .two-spare)),
+      ne-eqb (w .off) 0 (omega (arith, S .spare .spares, t .two-spare)),
       class-found (down n) r (t .under) (t .reaching) (t .on-top) (t .none-lower),
       lt-ltb (down n) 256 (omega (arith, t .in-use)),
       head-is,
@@ -158,47 +159,46 @@ module _ (E : Edition) (w : Words) (l : Ledger Stacks) (S : Sound E w l) (s : �
     whole-sound : n - s ≡ 0 → Sound E (withTotal (granting (bounds E w) w s (down n) r) (w .total - s)) (next 0)
     unfolding cut
     whole-sound e = sound-from E (granting (bounds E w) w s (down n) r) (w .total - s) (next 0) (w .size) (w .count)
-        (unfold granting unlinkAt in refl) (unfold granting unlinkAt in refl) (S .count-low) (S .count-high) (S .size-fits) (rw e at next-well)
+        (unfold granting unlinkAt in refl) (unfold granting unlinkAt in refl) (S .room .tables .count-low) (S .room .tables .count-high) (S .room .of-head .size-fits) (rw e at next-well)
         (rw (reverseAux-eq (t .before) (live s r ∷ t .after))
         (whole-standing (bounds E w) w xs (t .after) n r s (l .index) (l .pile) (t .under) st (t .on-top) inside (omega (arith, t .long-enough))))
-        (omega (arith, S .sum, sum-at (t .place) freeLen, tally-reverseAux freeLen (t .before) (live s r ∷ t .after), t .long-enough))
+        (omega (arith, S .total, sum-at (t .place) freeLen, tally-reverseAux freeLen (t .before) (live s r ∷ t .after), t .long-enough))
 
     split-sound : (k : ℕ) → n - s ≡ suc k
         → Sound E (withTotal (splitting (bounds E w) w s (down n) r o (n - s) m) (w .total - s)) (next (suc k))
     unfolding cut
     split-sound k e = rw e (sound-from E (splitting (bounds E w) w s (down n) r o (suc k) m) (w .total - s) (next (suc k)) (w .size) (w .count)
         (unfold splitting insert insertAt popPile granting unlinkAt in refl) (unfold splitting insert insertAt popPile granting unlinkAt in refl)
-        (S .count-low) (S .count-high) (S .size-fits) (rw e at next-well)
+        (S .room .tables .count-low) (S .room .tables .count-high) (S .room .of-head .size-fits) (rw e at next-well)
         (rw (reverseAux-eq (t .before) (live s r ∷ free (suc k) m ∷ t .after), ← (append-snoc xs (live s r) (free (suc k) m ∷ t .after)))
         (rw e at (split-standing (bounds E w) w xs (t .after) n r s (l .index) (l .pile) (t .under) st (t .on-top) inside m rest pile-is
         (omega (arith, t .two-spare, length-drop 1 (l .pile))) (t .long-enough) o (sym o-is) low)))
-        (omega (arith, S .sum, sum-at (t .place) freeLen, tally-reverseAux freeLen (t .before) (live s r ∷ free (suc k) m ∷ t .after))))
+        (omega (arith, S .total, sum-at (t .place) freeLen, tally-reverseAux freeLen (t .before) (live s r ∷ free (suc k) m ∷ t .after))))
       where
         low : down (n - s) < 256
-        low = omega (arith, down-most (n - s) (omega (arith, in-store, S .size-fits)))
+        low = omega (arith, down-most (n - s) (omega (arith, in-store, S .room .of-head .size-fits, E .fits)))
 
     served : (doTake E w s (planTake w s) .0 ≡ take by-class s l .0) × Sound E (doTake E w s (planTake w s) .1) (take by-class s l .1)
     unfolding doTake
     served = rw (plan-is, t .outcome) (go (n - s) refl (same? n s))
       where
         go : (k : ℕ) → n - s ≡ k → Same n s
-            → (doTake E w s (pick (eqb n s) (whole (down n) r o) (split (down n) r o (n - s) m)) .0 ≡ granted o r)
-            × Sound E (doTake E w s (pick (eqb n s) (whole (down n) r o) (split (down n) r o (n - s) m)) .1) (next (n - s))
+            → (doTake E w s (cond (eqb n s) (whole (down n) r o) (split (down n) r o (n - s) m)) .0 ≡ granted o r)
+            × Sound E (doTake E w s (cond (eqb n s) (whole (down n) r o) (split (down n) r o (n - s) m)) .1) (next (n - s))
         go zero e (same p q) = rw (q, e) (refl, whole-sound e)
         go zero e (differ p q) = absurd (p (omega (arith, t .long-enough)))
         go (suc k) e (same p q) = absurd (omega arith)
         go (suc k) e (differ p q) = rw (q, e) (refl, rw e at (split-sound k e))
 
-  pub take-sound : (takeWords E w s .0 ≡ take by-class s l .0) × Sound E (takeWords E w s .1) (take by-class s l .1)
-  unfolding takeWords
-  take-sound = rw (passes E w l S (doTake E w s (planTake w s))) (go (take-case (S .well) s))
+  pub take-sound : (doTake E w s (planTake w s) .0 ≡ take by-class s l .0) × Sound E (doTake E w s (planTake w s) .1) (take by-class s l .1)
+  take-sound = go (take-case (S .well) s)
     where
       refusal : (k : ℕ) → planTake w s ≡ stop k → take by-class s l ≡ (refused k, l)
           → (doTake E w s (planTake w s) .0 ≡ take by-class s l .0) × Sound E (doTake E w s (planTake w s) .1) (take by-class s l .1)
       refusal k p e = unfold doTake in rw (p, e) (refl, S)
 
       go : TakeCase s l → (doTake E w s (planTake w s) .0 ≡ take by-class s l .0) × Sound E (doTake E w s (planTake w s) .1) (take by-class s l .1)
-      go (few-spares h e) = refusal 3 (unfold planTake in rw (eq-eqb (w .off) 0 (omega (arith, S .spares)))) e
+      go (few-spares h e) = refusal 3 (unfold planTake in rw (eq-eqb (w .off) 0 (omega (arith, S .spare .spares)))) e
       go (no-region h empty e) =
-          refusal 4 (unfold planTake planClass in rw (ne-eqb (w .off) 0 (omega (arith, S .spares)), none-found empty)) e
+          refusal 4 (unfold planTake planClass in rw (ne-eqb (w .off) 0 (omega (arith, S .spare .spares)), none-found empty)) e
       go (serves t) = served t

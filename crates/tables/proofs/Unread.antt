@@ -1,7 +1,7 @@
 -- No call reads a word beyond those that its count of records needs: on words that agree up to there it gives one answer and leaves words
 -- that agree, sound or not. Assumes nothing.
 use mathlib.Core.Path.{_≡_, refl, ap, ap₂, _∙_, subst}
-use mathlib.Core.Bool.{Bool, true, false}
+use mathlib.Core.Bool.{Bool, true, false, cond}
 use mathlib.Core.List.{List}
 use Prim.Native.Nat.{ℕ, zero, suc, _+_, _-_, _≤_, _<_}
 use native.Mathlib.Omega.{arith}
@@ -11,8 +11,8 @@ use Rattle.basics.specs.Sum.{one}
 use Rattle.basics.proofs.Decided.{Below, below, beyond, below?}
 use Rattle.small_float.specs.Class.{up}
 use Rattle.ledger.specs.Ledger.{Answer, length-is, refused}
-use Rattle.ledger.specs.Calls.{Call, Take, HandBack, SizeOf, Report, FullReport, Reset}
-use Rattle.tables.specs.Layout.{pick, dataOffset, dataSize, binNext, neighborPrev, neighborNext, used, word, nodesNeeded, pileNeeded}
+use Rattle.ledger.specs.Calls.{Question, SizeOf, Report, FullReport, Call, Take, HandBack, Reset, Ask}
+use Rattle.tables.specs.Layout.{dataOffset, dataSize, binNext, neighborPrev, neighborNext, used, word, nodesNeeded, pileNeeded}
 use Rattle.tables.specs.Words.{Words, Edition, Bounds, bounds, withTables}
 use Rattle.tables.specs.Steps.{popPile}
 use Rattle.tables.specs.Gate.{gateOf, gated}
@@ -20,11 +20,12 @@ use Rattle.tables.specs.Setup.{Lent, blank, fresh, setupWords}
 use Rattle.tables.specs.Search.{Found, class-is, no-class, bad-bits, findClass}
 use Rattle.tables.specs.Take.{TakePlan, whole, split, planSpare, planRegion, planRecord, planClass, planTake, granting, splitting, doTake}
 use Rattle.tables.specs.HandBack.{BackPlan, merge, isLive, isFree, mergedOf, planMerged, planSides, planNeighbours, planBack, merging, doBack}
-use Rattle.tables.specs.Questions.{reportClass, reportLeaf, reportTop, reportOf, listLength, noted, countFrom, fullAnswer}
-use Rattle.tables.specs.Calls.{answerWords}
-use Rattle.tables.specs.Reach.{Room, AgreeOn, Agree}
+use Rattle.tables.specs.Questions.{reportClass, reportLeaf, reportTop, reportOf, listLength, noted, countFrom, fullAnswer, lengthOf, fullReportOf}
+use Rattle.tables.specs.Calls.{toldBy, behind, answerWords}
+use Rattle.tables.specs.Room.{Room}
+use Rattle.tables.specs.Reach.{AgreeOn, Agree}
 use Rattle.tables.specs.Guards.{TakeGuards, BackGuards}
-use Rattle.tables.proofs.Gate.{room-opens-gate, gated-open}
+use Rattle.tables.proofs.Gate.{room-opens-gate, gated-open, call-open}
 use Rattle.tables.proofs.Refusals.{setup-opens}
 use Rattle.tables.proofs.Guards.{take-guards, back-guards, live-low, free-low}
 use Rattle.tables.proofs.Agreeing.{word-agree, tables-agree, by-tables, insert-agree, unlinkAt-agree, drop-agree}
@@ -53,8 +54,8 @@ module _ (w : Words) (nodes pile : List ℕ) (N : AgreeOn (nodesNeeded (w .count
     where
       planned : TakePlan → TakePlan
       planned p =
-          pick (ltb z s) (TakePlan.stop 6)
-          (pick (ltb (w .size) (o + z)) (TakePlan.stop 6) (pick (ltb (w .total) s) (TakePlan.stop 6) (pick (eqb z s) (whole c r o) p)))
+          cond (ltb z s) (TakePlan.stop 6)
+          (cond (ltb (w .size) (o + z)) (TakePlan.stop 6) (cond (ltb (w .total) s) (TakePlan.stop 6) (cond (eqb z s) (whole c r o) p)))
 
   record-same : (s c r : ℕ) → planRecord w s c r ≡ planRecord v s c r
   unfolding planRecord
@@ -66,14 +67,14 @@ module _ (w : Words) (nodes pile : List ℕ) (N : AgreeOn (nodesNeeded (w .count
 
   class-same : (s : ℕ) (found : Found) → planClass w s found ≡ planClass v s found
   unfolding planClass
-  class-same s (class-is c) = ap (λ (p : TakePlan). pick (ltb c 256) p (TakePlan.stop 6)) (record-same s c (getD (w .heads) c 0))
+  class-same s (class-is c) = ap (λ (p : TakePlan). cond (ltb c 256) p (TakePlan.stop 6)) (record-same s c (getD (w .heads) c 0))
   class-same s no-class = refl
   class-same s bad-bits = refl
 
   take-same : (s : ℕ) → planTake w s ≡ planTake v s
   unfolding planTake
   take-same s =
-      ap (λ (p : TakePlan). pick (eqb (w .off) 0) (TakePlan.stop 3) p) (class-same s (findClass (w .leaves) (w .top) (up s)))
+      ap (λ (p : TakePlan). cond (eqb (w .off) 0) (TakePlan.stop 3) p) (class-same s (findClass (w .leaves) (w .top) (up s)))
 
   -- ---- take: the commit
   agree : Agree (w .count) w v
@@ -122,7 +123,7 @@ module _ (w : Words) (nodes pile : List ℕ) (N : AgreeOn (nodesNeeded (w .count
 
   -- of a neighbour that is merged, the words are read alike
   if-free : (f q : ℕ) (t : Bool) → f < 8 → (1 ≤ one t → q < w .count) → {d e : ℕ} → d ≡ e
-      → pick t (word (w .nodes) f q) d ≡ pick t (word nodes f q) e
+      → cond t (word (w .nodes) f q) d ≡ cond t (word nodes f q) e
   if-free f q true f8 l h = reads f q f8 (l (omega arith))
   if-free f q false f8 l h = h
 
@@ -162,8 +163,8 @@ module _ (w : Words) (nodes pile : List ℕ) (N : AgreeOn (nodesNeeded (w .count
   back-same r = rw (← (live-same r)) (at (isLive (w .nodes) (w .count) r) refl)
     where
       at : (t : Bool) → isLive (w .nodes) (w .count) r ≡ t
-          → pick t (planNeighbours w r (word (w .nodes) neighborPrev r) (word (w .nodes) neighborNext r)) (BackPlan.stop 5)
-          ≡ pick t (planNeighbours v r (word nodes neighborPrev r) (word nodes neighborNext r)) (BackPlan.stop 5)
+          → cond t (planNeighbours w r (word (w .nodes) neighborPrev r) (word (w .nodes) neighborNext r)) (BackPlan.stop 5)
+          ≡ cond t (planNeighbours v r (word nodes neighborPrev r) (word nodes neighborNext r)) (BackPlan.stop 5)
       at true e = links-same r (live-low (w .nodes) (w .count) r e)
       at false e = refl
 
@@ -186,12 +187,12 @@ module _ (w : Words) (nodes pile : List ℕ) (N : AgreeOn (nodesNeeded (w .count
       (back-by-plan E r (planBack w r) (back-guards w r))
 
   -- ---- questions
-  size-same : (r : ℕ) → pick (isLive (w .nodes) (w .count) r) (length-is (word (w .nodes) dataSize r)) (refused 5)
-      ≡ pick (isLive nodes (w .count) r) (length-is (word nodes dataSize r)) (refused 5)
+  size-same : (r : ℕ) → cond (isLive (w .nodes) (w .count) r) (length-is (word (w .nodes) dataSize r)) (refused 5)
+      ≡ cond (isLive nodes (w .count) r) (length-is (word nodes dataSize r)) (refused 5)
   size-same r = rw (← (live-same r)) (at (isLive (w .nodes) (w .count) r) refl)
     where
       at : (t : Bool) → isLive (w .nodes) (w .count) r ≡ t
-          → pick t (length-is (word (w .nodes) dataSize r)) (refused 5) ≡ pick t (length-is (word nodes dataSize r)) (refused 5)
+          → cond t (length-is (word (w .nodes) dataSize r)) (refused 5) ≡ cond t (length-is (word nodes dataSize r)) (refused 5)
       at true e = ap length-is (reads dataSize r (omega arith) (live-low (w .nodes) (w .count) r e))
       at false e = refl
 
@@ -227,11 +228,11 @@ fresh-agree E size count {nodes} {pile} {others} {spare} N P =
         tables-agree count (blank E size count nodes pile) (wiped-agree (nodesNeeded count) count N) (piled-agree (pileNeeded count) count count P)
 
 -- setup reads of its tables no more than their lengths, and of its arrays nothing
-pub setup-not-read : (E : Edition) (size count : ℕ) (a b : Lent) → Room E count (length (a .nodes)) (length (a .pile))
+pub setup-not-read : (E : Edition) (size count : ℕ) (a b : Lent) → size ≤ E .greatest → Room E count (length (a .nodes)) (length (a .pile))
     → AgreeOn (nodesNeeded count) (a .nodes) (b .nodes) → AgreeOn (pileNeeded count) (a .pile) (b .pile)
     → (setupWords E size count a .0 ≡ setupWords E size count b .0) × Agree count (setupWords E size count a .1) (setupWords E size count b .1)
-setup-not-read E size count a b room N P =
-    rw (setup-opens E size count a room, setup-opens E size count b room-too) (refl, fresh-agree E size count N P)
+setup-not-read E size count a b fits room N P =
+    rw (setup-opens E size count a fits room, setup-opens E size count b fits room-too) (refl, fresh-agree E size count N P)
   where
     room-too : Room E count (length (b .nodes)) (length (b .pile))
     room-too = record { count-low = room .count-low; count-high = room .count-high; nodes-room = N .long-too; pile-room = P .long-too }
@@ -239,25 +240,25 @@ setup-not-read E size count a b room N P =
 -- ---- every call
 module _ (E : Edition) (w : Words) (nodes pile : List ℕ) (N : AgreeOn (nodesNeeded (w .count)) (w .nodes) nodes)
     (P : AgreeOn (pileNeeded (w .count)) (w .pile) pile) (room : Room E (w .count) (length (w .nodes)) (length (w .pile))) where
-  -- the gate is open for both
-  opened : (a b : Answer × Words) → Alike (w .count) a b
-      → Alike (w .count) (gated (gateOf E w) w a) (gated (gateOf E (withTables w nodes pile)) (withTables w nodes pile) b)
-  opened a b alike = rw (gated-open (gateOf E w) w a (room-opens-gate E w room), gated-open (gateOf E u) u b (room-opens-gate E u room-too)) alike
-    where
-      u : Words
-      u = withTables w nodes pile
+  told-alike : (q : Question) → toldBy w q ≡ toldBy (withTables w nodes pile) q
+  unfolding toldBy lengthOf fullReportOf
+  told-alike (SizeOf span) = size-same w nodes pile N P (span .number)
+  told-alike Report = report-same w nodes pile N P
+  told-alike FullReport = ap fullAnswer (counts-same w nodes pile N P 256 0 (replicate 256 0))
 
+  behind-alike : (c : Call) → Alike (w .count) (behind E c w) (behind E c (withTables w nodes pile))
+  unfolding behind
+  behind-alike (Take asked) = take-alike w nodes pile N P E (asked .size)
+  behind-alike (HandBack span) = back-alike w nodes pile N P E (span .number)
+  behind-alike Reset = (refl, fresh-agree E (w .size) (w .count) N P)
+  behind-alike (Ask q) = (told-alike q, agree w nodes pile N P)
+
+  -- the gate is open for both
+  call-alike : (c : Call) → Alike (w .count) (answerWords E c w) (answerWords E c (withTables w nodes pile))
+  call-alike c = rw (call-open E c w room, call-open E c (withTables w nodes pile) room-too) (behind-alike c)
+    where
       room-too : Room E (w .count) (length nodes) (length pile)
       room-too = record { count-low = room .count-low; count-high = room .count-high; nodes-room = N .long-too; pile-room = P .long-too }
-
-  call-alike : (c : Call) → Alike (w .count) (answerWords E c w) (answerWords E c (withTables w nodes pile))
-  unfolding answerWords
-  call-alike (Take s) = opened _ _ (take-alike w nodes pile N P E s)
-  call-alike (HandBack r) = opened _ _ (back-alike w nodes pile N P E r)
-  call-alike (SizeOf r) = opened _ _ (size-same w nodes pile N P r, agree w nodes pile N P)
-  call-alike Report = opened _ _ (report-same w nodes pile N P, agree w nodes pile N P)
-  call-alike FullReport = opened _ _ (ap fullAnswer (counts-same w nodes pile N P 256 0 (replicate 256 0)), agree w nodes pile N P)
-  call-alike Reset = opened _ _ (refl, fresh-agree E (w .size) (w .count) N P)
 
 pub not-read : (E : Edition) (c : Call) (w v : Words) → Agree (w .count) w v → Room E (w .count) (length (w .nodes)) (length (w .pile))
     → (answerWords E c w .0 ≡ answerWords E c v .0) × Agree (w .count) (answerWords E c w .1) (answerWords E c v .1)

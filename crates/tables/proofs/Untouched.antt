@@ -2,7 +2,7 @@
 -- Assumes nothing.
 use mathlib.Core.Path.{_≡_, refl, _∙_}
 use mathlib.Core.Logic.{_≢_}
-use mathlib.Core.Bool.{Bool, true, false}
+use mathlib.Core.Bool.{Bool, true, false, cond}
 use mathlib.Core.List.{List}
 use Prim.Native.Nat.{ℕ, zero, suc, _+_, _*_, _-_, _/_, _≤_, _<_}
 use native.Mathlib.Omega.{arith}
@@ -11,7 +11,7 @@ use lib.ListN.{length, getD, length-set}
 use lib.Seq.{getD-set-other}
 use Rattle.basics.proofs.Decided.{below, beyond, below?}
 use Rattle.small_float.specs.Class.{down}
-use Rattle.tables.specs.Layout.{pick, dataOffset, dataSize, binPrev, binNext, neighborPrev, neighborNext, used, put, putLink}
+use Rattle.tables.specs.Layout.{dataOffset, dataSize, binPrev, binNext, neighborPrev, neighborNext, used, put, putLink}
 use Rattle.tables.specs.Words.{Words, Bounds}
 use Rattle.tables.specs.Steps.{insertNodes, joinNodes, insertAt, insert, unlinkAt}
 use Rattle.tables.specs.Setup.{wiped, piled}
@@ -29,9 +29,9 @@ putLink-elsewhere count r k v nodes i h = elim (below? r count) [
   | beyond l e ↦ rw e refl
 ]
 
-pick-length : (t : Bool) (l m : List ℕ) → length m ≡ length l → length (pick t l m) ≡ length l
-pick-length true l m e = refl
-pick-length false l m e = e
+cond-length : (t : Bool) (l m : List ℕ) → length m ≡ length l → length (cond t l m) ≡ length l
+cond-length true l m e = refl
+cond-length false l m e = e
 
 -- ---- insert: the seven words of record m, and three links to it
 module _ (K : Bounds) (m s o h p x : ℕ) (nodes : List ℕ) (i : ℕ) (m-apart : (k : ℕ) → k < 7 → i ≢ 8 * m + k) where
@@ -69,7 +69,7 @@ module _ (K : Bounds) (w : Words) (s o m p x : ℕ) where
 
   pub insert-leaves-length : length (insert K w s o m p x .leaves) ≡ length (w .leaves)
   unfolding insert insertAt
-  insert-leaves-length = pick-length (ltb (getD (w .heads) (down s) 0) (K .n)) (w .leaves) _ (length-set (w .leaves) (down s / 8) _)
+  insert-leaves-length = cond-length (ltb (getD (w .heads) (down s) 0) (K .n)) (w .leaves) _ (length-set (w .leaves) (down s / 8) _)
 
 -- ---- unlink: two links
 module _ (K : Bounds) (w : Words) (c p x : ℕ) where
@@ -85,12 +85,12 @@ module _ (K : Bounds) (w : Words) (c p x : ℕ) where
 
   pub unlinkAt-heads-length : length (unlinkAt K w c p x .heads) ≡ length (w .heads)
   unfolding unlinkAt
-  unlinkAt-heads-length = pick-length (ltb p (K .n)) (w .heads) _ (length-set (w .heads) c x)
+  unlinkAt-heads-length = cond-length (ltb p (K .n)) (w .heads) _ (length-set (w .heads) c x)
 
   pub unlinkAt-leaves-length : length (unlinkAt K w c p x .leaves) ≡ length (w .leaves)
   unfolding unlinkAt
   unlinkAt-leaves-length =
-      pick-length (ltb p (K .n)) (w .leaves) _ (pick-length (ltb x (K .n)) (w .leaves) _ (length-set (w .leaves) (c / 8) _))
+      cond-length (ltb p (K .n)) (w .leaves) _ (cond-length (ltb x (K .n)) (w .leaves) _ (length-set (w .leaves) (c / 8) _))
 
 -- ---- setup's two loops: the used words, and the pile
 pub wiped-elsewhere : (k : ℕ) (nodes : List ℕ) (i : ℕ) → ((r : ℕ) → r < k → i ≢ 8 * r + used)

@@ -1,38 +1,33 @@
--- Every call on words under the ledger's one type of calls, and runs of them. Assumes nothing.
-use mathlib.Core.List.{List, [], _∷_}
-use Rattle.ledger.specs.Ledger.{Answer}
-use Rattle.ledger.specs.Calls.{Call, Take, HandBack, SizeOf, Report, FullReport, Reset, Event, event}
+-- Every call on words under the ledger's one type of calls. Assumes nothing.
+use Rattle.ledger.specs.Ledger.{Answer, done}
+use Rattle.ledger.specs.Calls.{Question, SizeOf, Report, FullReport, Call, Take, HandBack, Reset, Ask}
 use Rattle.tables.specs.Words.{Words, Edition}
-use Rattle.tables.specs.Setup.{resetWords}
-use Rattle.tables.specs.Take.{takeWords}
-use Rattle.tables.specs.HandBack.{backWords}
-use Rattle.tables.specs.Questions.{sizeWords, reportWords, fullWords}
+use Rattle.tables.specs.Gate.{gateOf, gated}
+use Rattle.tables.specs.Setup.{fresh}
+use Rattle.tables.specs.Take.{planTake, doTake}
+use Rattle.tables.specs.HandBack.{planBack, doBack}
+use Rattle.tables.specs.Questions.{lengthOf, reportOf, fullReportOf}
 
--- the edition of the base: 32-bit links, 131,072 records
+-- the edition of the base: 32-bit links, 131,072 records, any 32-bit size
 abbrev pub edition32 : Edition
-edition32 = record { none = 4294967295; limit = 131072; small = lib.Dec.lit≤ tt }
+edition32 = record { none = 4294967295; limit = 131072; greatest = 4294967295; small = lib.Dec.lit≤ tt; fits = lib.Dec.lit≤ tt }
+
+unfoldable pub toldBy : Words → Question → Answer
+unfolding lengthOf reportOf fullReportOf
+toldBy w (SizeOf span) = lengthOf w (span .number)
+toldBy w Report = reportOf w
+toldBy w FullReport = fullReportOf w
 
 module _ (E : Edition) where
+  -- what a call does once its gate is open: a plan and its commit; everything anew; a question leaves every word
+  unfoldable pub behind : Call → Words → Answer × Words
+  unfolding planTake doTake planBack doBack fresh toldBy
+  behind (Take asked) w = doTake E w (asked .size) (planTake w (asked .size))
+  behind (HandBack span) w = doBack E w (span .number) (planBack w (span .number))
+  behind Reset w = (done, fresh E (w .size) (w .count) (w .nodes) (w .pile))
+  behind (Ask q) w = (toldBy w q, w)
+
+  -- every call stands behind the same gate
   unfoldable pub answerWords : Call → Words → Answer × Words
-  unfolding takeWords backWords sizeWords reportWords fullWords resetWords
-  answerWords (Take s) w = takeWords E w s
-  answerWords (HandBack r) w = backWords E w r
-  answerWords (SizeOf r) w = sizeWords E w r
-  answerWords Report w = reportWords E w
-  answerWords FullReport w = fullWords E w
-  answerWords Reset w = resetWords E w
-
-  unfoldable pub endWords : List Call → Words → Words
-  unfolding answerWords
-  endWords [] w = w
-  endWords (c ∷ cs) w = endWords cs (answerWords c w .1)
-
-  unfoldable pub answersWords : List Call → Words → List Answer
-  unfolding answerWords
-  answersWords [] w = []
-  answersWords (c ∷ cs) w = answerWords c w .0 ∷ answersWords cs (answerWords c w .1)
-
-  unfoldable pub logWords : List Call → Words → List Event
-  unfolding answerWords
-  logWords [] w = []
-  logWords (c ∷ cs) w = event c (answerWords c w .0) ∷ logWords cs (answerWords c w .1)
+  unfolding gated gateOf behind
+  answerWords c w = gated (gateOf E w) w (behind c w)

@@ -7,15 +7,16 @@ use Prim.Native.Nat.{ℕ, zero, suc, _+_, _*_, _-_, _^_, _≤_, _<_}
 use lib.ListN.{length, getD}
 use Rattle.basics.specs.Extreme.{Greatest, Least}
 use Rattle.ledger.specs.Ledger.{Ledger, granted, done, refused, setup, by-class, Stacks}
-use Rattle.ledger.specs.Calls.{Call, Take, HandBack, SizeOf, Report, FullReport, Reset, callOf, answerOf, answer, end, answers}
+use Rattle.ledger.specs.Calls.{Request, Token, Question, SizeOf, Report, FullReport, Call, Take, HandBack, Reset, Ask, callOf, answerOf, answer, end, answers, log}
 use Rattle.ledger.specs.Stretch.{Stretch}
 use Rattle.tables.specs.Layout.{binNext, used, word, nodesNeeded, pileNeeded}
 use Rattle.tables.specs.Words.{Words, Edition}
 use Rattle.tables.specs.Setup.{Lent, zeros, setupWords}
 use Rattle.tables.specs.Search.{class-is, no-class, findClass, highBit}
-use Rattle.tables.specs.Calls.{answerWords, endWords, answersWords, logWords}
+use Rattle.tables.specs.Calls.{answerWords}
 use Rattle.tables.specs.Sound.{Sound}
-use Rattle.tables.specs.Reach.{Room, KeptBeyond, AgreeOn, Agree, LeftAlone, Written}
+use Rattle.tables.specs.Room.{Room}
+use Rattle.tables.specs.Reach.{KeptBeyond, AgreeOn, Agree, LeftAlone, Written}
 
 -- the record that is reached after k steps along a class list
 unfoldable pub along : List ℕ → ℕ → ℕ → ℕ
@@ -35,19 +36,30 @@ abbrev pub TooShort : Edition → (count nodes pile : ℕ) → Type 0
 TooShort E count nodes pile =
     ((2 ≤ count) × (count ≤ E .limit)) × ((nodes < nodesNeeded count) ⊎ (pile < pileNeeded count))
 
+-- a count within its limits, and a store larger than the edition allows; with 32-bit sizes there is none
+abbrev pub TooLarge : Edition → (size count : ℕ) → Type 0
+TooLarge E size count = ((2 ≤ count) × (count ≤ E .limit)) × (E .greatest < size)
+
 -- k is one of these numbers
 abbrev pub OneOf : List ℕ → ℕ → Type 0
 OneOf [] k = ⊥
 OneOf (n ∷ ns) k = (k ≡ n) ⊎ OneOf ns k
 
--- the refusals that a call can give at all, on any words (setup: 1 and 2)
+-- the refusals that a question, and a call, can give once the gate is open
+abbrev pub mayTell : Question → List ℕ
+mayTell (SizeOf span) = 5 ∷ []
+mayTell Report = 6 ∷ []
+mayTell FullReport = 6 ∷ []
+
+abbrev pub mayGiveBehind : Call → List ℕ
+mayGiveBehind (Take asked) = 3 ∷ 4 ∷ 6 ∷ []
+mayGiveBehind (HandBack span) = 5 ∷ 6 ∷ []
+mayGiveBehind Reset = []
+mayGiveBehind (Ask q) = mayTell q
+
+-- and those that a call can give at all, on any words: 6 and 2 at the gate (setup: 1, 2, and 10 in an edition that has not every size)
 abbrev pub mayGive : Call → List ℕ
-mayGive (Take s) = 2 ∷ 3 ∷ 4 ∷ 6 ∷ []
-mayGive (HandBack r) = 2 ∷ 5 ∷ 6 ∷ []
-mayGive (SizeOf r) = 2 ∷ 5 ∷ 6 ∷ []
-mayGive Report = 2 ∷ 6 ∷ []
-mayGive FullReport = 2 ∷ 6 ∷ []
-mayGive Reset = 2 ∷ 6 ∷ []
+mayGive c = 6 ∷ 2 ∷ mayGiveBehind c
 
 -- "number at or above the count, or record not live", by the words: its used word is 0
 abbrev pub NotLive : Words → ℕ → Type 0
@@ -58,16 +70,17 @@ abbrev pub Holds : Ledger Stacks → ℕ → Type 0
 Holds l c = ¬ (l .index c ≡ [])
 
 pub record Claims (E : Edition) : Type 0 where
-  -- ---- setup: refused as 1 exactly for a bad count, else as 2 exactly for a short table; refused, it gives a head of zeros and leaves the
-  -- tables; accepted, whatever the words held, the tables are sound for the ledger's setup
+  -- ---- setup: refused as 1 exactly for a bad count, else as 10 exactly for a size that the edition has not, else as 2 exactly for a short table;
+  -- refused, it gives a head of zeros and leaves the tables; accepted, whatever the words held, the tables are sound for the ledger's setup
   pub setup-1 : (size count : ℕ) (lent : Lent) → (setupWords E size count lent .0 ≡ refused 1) ↔ BadCount E count
+  pub setup-10 : (size count : ℕ) (lent : Lent) → (setupWords E size count lent .0 ≡ refused 10) ↔ TooLarge E size count
   pub setup-2 : (size count : ℕ) (lent : Lent)
-      → (setupWords E size count lent .0 ≡ refused 2) ↔ TooShort E count (length (lent .nodes)) (length (lent .pile))
+      → (setupWords E size count lent .0 ≡ refused 2) ↔ ((size ≤ E .greatest) × TooShort E count (length (lent .nodes)) (length (lent .pile)))
   pub setup-done : (size count : ℕ) (lent : Lent)
-      → (setupWords E size count lent .0 ≡ done) ↔ Room E count (length (lent .nodes)) (length (lent .pile))
+      → (setupWords E size count lent .0 ≡ done) ↔ ((size ≤ E .greatest) × Room E count (length (lent .nodes)) (length (lent .pile)))
   pub setup-refused : (size count : ℕ) (lent : Lent) (k : ℕ) → setupWords E size count lent .0 ≡ refused k
       → setupWords E size count lent .1 ≡ zeros lent
-  pub setup-sound : (size count : ℕ) (lent : Lent) → size < 2 ^ 32 → setupWords E size count lent .0 ≡ done
+  pub setup-sound : (size count : ℕ) (lent : Lent) → setupWords E size count lent .0 ≡ done
       → Sound E (setupWords E size count lent .1) (setup by-class size count)
   -- which words setup and reset write
   pub setup-leaves : (size count : ℕ) (lent : Lent) (i : ℕ) → LeftAlone count i
@@ -77,13 +90,13 @@ pub record Claims (E : Edition) : Type 0 where
   pub setup-lengths : (size count : ℕ) (lent : Lent) → (length (setupWords E size count lent .1 .nodes) ≡ length (lent .nodes))
       × (length (setupWords E size count lent .1 .pile) ≡ length (lent .pile))
   -- and what they write does not depend on what stood there
-  pub setup-fixed : (size count : ℕ) (a b : Lent) → size < 2 ^ 32 → setupWords E size count a .0 ≡ done → setupWords E size count b .0 ≡ done
+  pub setup-fixed : (size count : ℕ) (a b : Lent) → setupWords E size count a .0 ≡ done → setupWords E size count b .0 ≡ done
       → (i : ℕ) → Written count i → getD (setupWords E size count a .1 .nodes) i 0 ≡ getD (setupWords E size count b .1 .nodes) i 0
   pub setup-pile-fixed : (size count : ℕ) (lent : Lent) → setupWords E size count lent .0 ≡ done → (i : ℕ) → i < pileNeeded count
       → getD (setupWords E size count lent .1 .pile) i 0 ≡ count - i - 1
   pub reset-leaves : (w : Words) (i : ℕ) → LeftAlone (w .count) i → getD (answerWords E Reset w .1 .nodes) i 0 ≡ getD (w .nodes) i 0
   -- "Reset needs only a good count and lengths, whatever the words held."
-  pub reset-sound : (w : Words) → w .size < 2 ^ 32 → Room E (w .count) (length (w .nodes)) (length (w .pile))
+  pub reset-sound : (w : Words) → w .size ≤ E .greatest → Room E (w .count) (length (w .nodes)) (length (w .pile))
       → (answerWords E Reset w .0 ≡ done) × Sound E (answerWords E Reset w .1) (setup by-class (w .size) (w .count))
   -- ---- every other call: 6 for the head's count, then 2 for the lengths, before anything else; behind an open gate never 2
   pub call-6 : (c : Call) (w : Words) → BadCount E (w .count) → answerWords E c w ≡ (refused 6, w)
@@ -91,37 +104,40 @@ pub record Claims (E : Edition) : Type 0 where
   pub not-2 : (c : Call) (w : Words) → Room E (w .count) (length (w .nodes)) (length (w .pile)) → ¬ (answerWords E c w .0 ≡ refused 2)
   -- ---- "given exactly when", behind an open gate and on any words, sound or not: 3 exactly if by the head one record is spare (`free_offset` is the
   -- spare records less one, so no head says 'none'); 5 exactly if the number is at or above the count or the used word is 0
-  pub take-3 : (w : Words) (s : ℕ) → Room E (w .count) (length (w .nodes)) (length (w .pile))
-      → (answerWords E (Take s) w .0 ≡ refused 3) ↔ (w .off ≡ 0)
-  pub back-5 : (w : Words) (r : ℕ) → Room E (w .count) (length (w .nodes)) (length (w .pile))
-      → (answerWords E (HandBack r) w .0 ≡ refused 5) ↔ NotLive w r
-  pub size-5 : (w : Words) (r : ℕ) → Room E (w .count) (length (w .nodes)) (length (w .pile))
-      → (answerWords E (SizeOf r) w .0 ≡ refused 5) ↔ NotLive w r
-  -- which numbers a call can give at all; so no call but setup gives 1
+  pub take-3 : (w : Words) (asked : Request) → Room E (w .count) (length (w .nodes)) (length (w .pile))
+      → (answerWords E (Take asked) w .0 ≡ refused 3) ↔ (w .off ≡ 0)
+  pub back-5 : (w : Words) (span : Token) → Room E (w .count) (length (w .nodes)) (length (w .pile))
+      → (answerWords E (HandBack span) w .0 ≡ refused 5) ↔ NotLive w (span .number)
+  pub size-5 : (w : Words) (span : Token) → Room E (w .count) (length (w .nodes)) (length (w .pile))
+      → (answerWords E (Ask (SizeOf span)) w .0 ≡ refused 5) ↔ NotLive w (span .number)
+  -- which numbers a call can give at all, and which behind an open gate; so no call but setup gives 1
   pub numbers : (c : Call) (w : Words) (k : ℕ) → answerWords E c w .0 ≡ refused k → OneOf (mayGive c) k
-  pub setup-numbers : (size count : ℕ) (lent : Lent) (k : ℕ) → setupWords E size count lent .0 ≡ refused k → OneOf (1 ∷ 2 ∷ []) k
+  pub numbers-behind : (c : Call) (w : Words) → Room E (w .count) (length (w .nodes)) (length (w .pile))
+      → (k : ℕ) → answerWords E c w .0 ≡ refused k → OneOf (mayGiveBehind c) k
+  pub setup-numbers : (size count : ℕ) (lent : Lent) (k : ℕ) → setupWords E size count lent .0 ≡ refused k
+      → OneOf (1 ∷ 10 ∷ 2 ∷ []) k
   -- ---- sound tables: "Every call takes sound to sound and never gives 6 there", and answers as the ledger
   pub call-sound : (w : Words) (l : Ledger Stacks) → Sound E w l → (c : Call)
       → (answerWords E c w .0 ≡ answer by-class (w .size) (w .count) c l .0)
       × Sound E (answerWords E c w .1) (answer by-class (w .size) (w .count) c l .1)
   pub never-6 : (w : Words) (l : Ledger Stacks) → Sound E w l → (c : Call) → ¬ (answerWords E c w .0 ≡ refused 6)
   pub one-ledger : (w : Words) (l m : Ledger Stacks) → Sound E w l → Sound E w m → l ≡ m
-  pub alike : (w v : Words) (l : Ledger Stacks) → Sound E w l → Sound E v l → (cs : List Call) → answersWords E cs w ≡ answersWords E cs v
+  pub alike : (w v : Words) (l : Ledger Stacks) → Sound E w l → Sound E v l → (cs : List Call) → answers (answerWords E) cs w ≡ answers (answerWords E) cs v
   -- ---- any words at all: "A refusal changes no word .. Even from spoiled tables no span outside the store is granted."
   pub refused-kept : (c : Call) (w : Words) (k : ℕ) → answerWords E c w .0 ≡ refused k → answerWords E c w .1 ≡ w
-  pub grant-inside : (w : Words) (s o r : ℕ) → answerWords E (Take s) w .0 ≡ granted o r → o + s ≤ w .size
+  pub grant-inside : (w : Words) (asked : Request) (o r : ℕ) → answerWords E (Take asked) w .0 ≡ granted o r → o + asked .size ≤ w .size
   -- "a circular list ends the full report with 6"
   pub circular-6 : (w : Words) (c : ℕ) → c < 256 → Circular w c → Room E (w .count) (length (w .nodes)) (length (w .pile))
-      → answerWords E FullReport w .0 ≡ refused 6
+      → answerWords E (Ask FullReport) w .0 ≡ refused 6
   -- and nothing else does, once the gate is open
   pub circular-exactly : (w : Words) → Room E (w .count) (length (w .nodes)) (length (w .pile))
-      → (answerWords E FullReport w .0 ≡ refused 6) ↔ ((c : ℕ) × (c < 256) × Circular w c)
+      → (answerWords E (Ask FullReport) w .0 ≡ refused 6) ↔ ((c : ℕ) × (c < 256) × Circular w c)
   -- "words beyond them are neither read nor written"
   pub not-written : (c : Call) (w : Words) → KeptBeyond (w .count) w (answerWords E c w .1)
   pub not-read : (c : Call) (w v : Words) → Agree (w .count) w v → Room E (w .count) (length (w .nodes)) (length (w .pile))
       → (answerWords E c w .0 ≡ answerWords E c v .0) × Agree (w .count) (answerWords E c w .1) (answerWords E c v .1)
   -- of what it is lent, an accepted setup reads neither the arrays nor, of the tables, more than the lengths need
-  pub setup-not-read : (size count : ℕ) (a b : Lent) → Room E count (length (a .nodes)) (length (a .pile))
+  pub setup-not-read : (size count : ℕ) (a b : Lent) → size ≤ E .greatest → Room E count (length (a .nodes)) (length (a .pile))
       → AgreeOn (nodesNeeded count) (a .nodes) (b .nodes) → AgreeOn (pileNeeded count) (a .pile) (b .pile)
       → (setupWords E size count a .0 ≡ setupWords E size count b .0)
       × Agree count (setupWords E size count a .1) (setupWords E size count b .1)
@@ -133,15 +149,12 @@ pub record Claims (E : Edition) : Type 0 where
       → ((w .top ≡ 0) × ((d : ℕ) → l .index d ≡ []))
       ⊎ Greatest (λ d. Holds l d) (8 * highBit (w .top) + highBit (getD (w .leaves) (highBit (w .top)) 0))
   -- ---- runs. Demand 2: "from an accepted setup .., under any calls .., answers and reports .. are proved equal to document 01's plain ledger"
-  pub demand-2 : (size count : ℕ) (lent : Lent) → size < 2 ^ 32 → setupWords E size count lent .0 ≡ done → (cs : List Call)
-      → (answersWords E cs (setupWords E size count lent .1) ≡ answers by-class size count cs (setup by-class size count))
-      × Sound E (endWords E cs (setupWords E size count lent .1)) (end by-class size count cs (setup by-class size count))
-  -- the log, of which demand 3 speaks, has every call in its order and every answer, on any words
-  pub log-calls : (cs : List Call) (w : Words) → map callOf (logWords E cs w) ≡ cs
-  pub log-answers : (cs : List Call) (w : Words) → map answerOf (logWords E cs w) ≡ answersWords E cs w
+  pub demand-2 : (size count : ℕ) (lent : Lent) → setupWords E size count lent .0 ≡ done → (cs : List Call)
+      → (answers (answerWords E) cs (setupWords E size count lent .1) ≡ answers (answer by-class size count) cs (setup by-class size count))
+      × Sound E (end (answerWords E) cs (setupWords E size count lent .1)) (end (answer by-class size count) cs (setup by-class size count))
   -- Demand 3: after the stretch "every later call, handle numbers and reports included, answers as though the stretch had never been"
-  pub demand-3 : (size count : ℕ) (lent : Lent) → size < 2 ^ 32 → setupWords E size count lent .0 ≡ done → (before : List Call)
-      → (cs : List Call) → Stretch [] (logWords E cs (endWords E before (setupWords E size count lent .1)))
+  pub demand-3 : (size count : ℕ) (lent : Lent) → setupWords E size count lent .0 ≡ done → (before : List Call)
+      → (cs : List Call) → Stretch [] (log (answerWords E) cs (end (answerWords E) before (setupWords E size count lent .1)))
       → (later-calls : List Call)
-      → answersWords E later-calls (endWords E cs (endWords E before (setupWords E size count lent .1)))
-      ≡ answersWords E later-calls (endWords E before (setupWords E size count lent .1))
+      → answers (answerWords E) later-calls (end (answerWords E) cs (end (answerWords E) before (setupWords E size count lent .1)))
+      ≡ answers (answerWords E) later-calls (end (answerWords E) before (setupWords E size count lent .1))

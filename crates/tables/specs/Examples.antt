@@ -5,12 +5,12 @@ use Prim.Native.Nat.{ℕ, _^_, _≤_, _<_}
 use mathlib.Core.List.{List, [], _∷_}
 use lib.ListN.{length, set, replicate}
 use Rattle.ledger.specs.Ledger.{Answer, granted, done, length-is, reported, refused}
-use Rattle.ledger.specs.Calls.{Call, Take, HandBack, SizeOf, Report, FullReport, Reset}
+use Rattle.ledger.specs.Calls.{Request, Report, FullReport, Call, Take, Reset, Ask, takes, hands-back, asks-size, answers, end}
 use Rattle.ledger.specs.Runs.{the-calls, the-answers}
 use Rattle.tables.specs.Layout.{dataOffset, dataSize, binNext, put, nodesNeeded, pileNeeded}
 use Rattle.tables.specs.Words.{Words, Edition, withNodes}
 use Rattle.tables.specs.Setup.{Lent, tablesAlone, setupWords}
-use Rattle.tables.specs.Calls.{edition32, answerWords, endWords, answersWords}
+use Rattle.tables.specs.Calls.{edition32, answerWords}
 use Rattle.tables.specs.Claims.{OneOf, mayGive}
 
 unfoldable pub desk : (size count : ℕ) → Words
@@ -20,16 +20,16 @@ desk size count = setupWords edition32 size count (tablesAlone (replicate (nodes
 -- ---- "Size 100, count 6. Report 100, 96." The ledger's rows, each call followed by a report
 unfoldable pub reporting : List Call → List Call
 reporting [] = []
-reporting (c ∷ cs) = c ∷ Report ∷ reporting cs
+reporting (c ∷ cs) = c ∷ Ask Report ∷ reporting cs
 
 unfoldable pub withReports : List (Answer × (ℕ × ℕ)) → List Answer
 withReports [] = []
 withReports (row ∷ rows) = row .0 ∷ reported (row .1 .0) (row .1 .1) ∷ withReports rows
 
 pub record RunOnWords : Type 0 where
-  pub the-run : answersWords edition32 (Report ∷ reporting the-calls) (desk 100 6) ≡ reported 100 96 ∷ withReports the-answers
+  pub the-run : answers (answerWords edition32) (Ask Report ∷ reporting the-calls) (desk 100 6) ≡ reported 100 96 ∷ withReports the-answers
   -- "The one region now belongs to record 2"; after a reset it is record 0's again
-  pub then-reset : answersWords edition32 (Take 5 ∷ SizeOf 2 ∷ Reset ∷ SizeOf 2 ∷ Take 5 ∷ Report ∷ []) (endWords edition32 the-calls (desk 100 6))
+  pub then-reset : answers (answerWords edition32) (takes 5 ∷ asks-size 2 ∷ Reset ∷ asks-size 2 ∷ takes 5 ∷ Ask Report ∷ []) (end (answerWords edition32) the-calls (desk 100 6))
       ≡ granted 0 2 ∷ length-is 5 ∷ done ∷ refused 5 ∷ granted 0 0 ∷ reported 95 88 ∷ []
 
 -- ---- the words of that store after its first two takes
@@ -37,7 +37,7 @@ abbrev pub none : ℕ
 none = 4294967295
 
 abbrev pub afterTwo : Words
-afterTwo = endWords edition32 (Take 20 ∷ Take 30 ∷ []) (desk 100 6)
+afterTwo = end (answerWords edition32) (takes 20 ∷ takes 30 ∷ []) (desk 100 6)
 
 pub record TwoTakes : Type 0 where
   pub size-is : afterTwo .size ≡ 100
@@ -63,21 +63,21 @@ pub record TwoTakes : Type 0 where
 -- ---- "Ways to get it nearly right", and others: each row is the first to differ under one of the edits in must-fail/
 pub record NearlyRight : Type 0 where
   -- only the first top bin searched: a request of class 1, in top bin 0, is served by a region of class 36, in top bin 4
-  pub next-top-bin : answersWords edition32 (Take 1 ∷ []) (desk 100 6) ≡ granted 0 0 ∷ []
+  pub next-top-bin : answers (answerWords edition32) (takes 1 ∷ []) (desk 100 6) ≡ granted 0 0 ∷ []
   -- the leaf floor kept after moving up: a request of class 7, leaf 7, is served by a region of class 32, leaf 0
-  pub floor-dropped : answersWords edition32 (Take 7 ∷ []) (desk 64 4) ≡ granted 0 0 ∷ []
+  pub floor-dropped : answers (answerWords edition32) (takes 7 ∷ []) (desk 64 4) ≡ granted 0 0 ∷ []
   -- the top bit not cleared when its leaf byte falls to 0: the only region is granted whole
-  pub top-bit-cleared : answersWords edition32 (Take 64 ∷ Report ∷ Take 1 ∷ []) (desk 64 4) ≡ granted 0 0 ∷ reported 0 0 ∷ refused 4 ∷ []
+  pub top-bit-cleared : answers (answerWords edition32) (takes 64 ∷ Ask Report ∷ takes 1 ∷ []) (desk 64 4) ≡ granted 0 0 ∷ reported 0 0 ∷ refused 4 ∷ []
   -- the pile index off by one: a remainder takes the record on top
-  pub pile-top : answersWords edition32 (Take 10 ∷ Take 10 ∷ []) (desk 100 6) ≡ granted 0 0 ∷ granted 10 1 ∷ []
+  pub pile-top : answers (answerWords edition32) (takes 10 ∷ takes 10 ∷ []) (desk 100 6) ≡ granted 0 0 ∷ granted 10 1 ∷ []
   -- the old top's back link not written: of two regions of class 10 the lower is merged away first, and the class is then empty
-  pub linked-back : answersWords edition32
-      (Take 10 ∷ Take 10 ∷ Take 10 ∷ Take 10 ∷ Take 10 ∷ Take 10 ∷ HandBack 0 ∷ HandBack 2 ∷ HandBack 1 ∷ HandBack 4 ∷ Take 10 ∷ [])
+  pub linked-back : answers (answerWords edition32)
+      (takes 10 ∷ takes 10 ∷ takes 10 ∷ takes 10 ∷ takes 10 ∷ takes 10 ∷ hands-back 0 ∷ hands-back 2 ∷ hands-back 1 ∷ hands-back 4 ∷ takes 10 ∷ [])
       (desk 100 8)
       ≡ granted 0 0 ∷ granted 10 1 ∷ granted 20 2 ∷ granted 30 3 ∷ granted 40 4 ∷ granted 50 5
       ∷ done ∷ done ∷ done ∷ done ∷ granted 40 4 ∷ []
   -- the remainder linked before the grant: both are of class 36, and the class must keep the remainder
-  pub grant-first : answersWords edition32 (Take 1 ∷ Report ∷ []) (desk 100 4) ≡ granted 0 0 ∷ reported 99 96 ∷ []
+  pub grant-first : answers (answerWords edition32) (takes 1 ∷ Ask Report ∷ []) (desk 100 4) ≡ granted 0 0 ∷ reported 99 96 ∷ []
 
 -- ---- a word of record 0 spoiled in a fresh store: 6, and the words as they came
 unfoldable pub spoiled : (field v : ℕ) → Words
@@ -86,11 +86,11 @@ spoiled field v = withNodes (desk 100 6) (put 0 field v (desk 100 6 .nodes))
 
 pub record Spoiled : Type 0 where
   -- a length below the request, though its class is not
-  pub too-short : answerWords edition32 (Take 20) (spoiled dataSize 5) ≡ (refused 6, spoiled dataSize 5)
+  pub too-short : answerWords edition32 (takes 20) (spoiled dataSize 5) ≡ (refused 6, spoiled dataSize 5)
   -- an offset from which the length passes the size
-  pub outside : answerWords edition32 (Take 20) (spoiled dataOffset 1) ≡ (refused 6, spoiled dataOffset 1)
+  pub outside : answerWords edition32 (takes 20) (spoiled dataOffset 1) ≡ (refused 6, spoiled dataOffset 1)
   -- a list that comes back to its own record
-  pub around : answerWords edition32 FullReport (spoiled binNext 0) ≡ (refused 6, spoiled binNext 0)
+  pub around : answerWords edition32 (Ask FullReport) (spoiled binNext 0) ≡ (refused 6, spoiled binNext 0)
   -- nothing else is spoiled: with the word that belongs there, it is the fresh store, where neither call is refused
   pub right-size : spoiled dataSize 100 ≡ desk 100 6
   pub right-offset : spoiled dataOffset 0 ≡ desk 100 6
@@ -103,13 +103,15 @@ LongEnough count lent = (nodesNeeded count ≤ length (lent .nodes)) × (pileNee
 
 pub record CountRows : Type 0 where
   pub count-1 : (size : ℕ) (lent : Lent) → setupWords edition32 size 1 lent .0 ≡ refused 1
-  pub count-2 : (size : ℕ) (lent : Lent) → LongEnough 2 lent → setupWords edition32 size 2 lent .0 ≡ done
-  pub takes-of-2 : (size : ℕ) (lent : Lent) → size < 2 ^ 32 → LongEnough 2 lent → (cs : List Call) (s : ℕ)
-      → answerWords edition32 (Take s) (endWords edition32 cs (setupWords edition32 size 2 lent .1)) .0 ≡ refused 3
-  pub count-131072 : (size : ℕ) (lent : Lent) → LongEnough 131072 lent → setupWords edition32 size 131072 lent .0 ≡ done
+  pub count-2 : (size : ℕ) (lent : Lent) → size < 2 ^ 32 → LongEnough 2 lent → setupWords edition32 size 2 lent .0 ≡ done
+  pub takes-of-2 : (size : ℕ) (lent : Lent) → size < 2 ^ 32 → LongEnough 2 lent → (cs : List Call) (asked : Request)
+      → answerWords edition32 (Take asked) (end (answerWords edition32) cs (setupWords edition32 size 2 lent .1)) .0 ≡ refused 3
+  pub count-131072 : (size : ℕ) (lent : Lent) → size < 2 ^ 32 → LongEnough 131072 lent → setupWords edition32 size 131072 lent .0 ≡ done
   pub count-131073 : (size : ℕ) (lent : Lent) → setupWords edition32 size 131073 lent .0 ≡ refused 1
+  -- every 32-bit size is one of this edition, so its setup gives 1 and 2 alone
+  pub setup-32 : (size count : ℕ) (lent : Lent) (k : ℕ) → size < 2 ^ 32 → setupWords edition32 size count lent .0 ≡ refused k → OneOf (1 ∷ 2 ∷ []) k
   -- LongEnough asks no more than it must: without it, a count that would do is refused as 2
-  pub not-long-enough : (size count : ℕ) (lent : Lent) → 2 ≤ count → count ≤ 131072 → ¬ LongEnough count lent
+  pub not-long-enough : (size count : ℕ) (lent : Lent) → size < 2 ^ 32 → 2 ≤ count → count ≤ 131072 → ¬ LongEnough count lent
       → setupWords edition32 size count lent .0 ≡ refused 2
   -- "refused, it returns one of zeros": by value, the arrays too
   pub one-of-zeros : (size : ℕ) (nodes pile : List ℕ) → setupWords edition32 size 1 (tablesAlone nodes pile) .1
@@ -131,4 +133,5 @@ pub record AllGiven : Type 0 where
 
 -- ---- any marker that no record below the limit can have makes an edition, so the claims are of all of these
 pub record EveryEdition : Type 0 where
-  pub every-edition : (none limit : ℕ) → limit ≤ none → (E : Edition) × (E .none ≡ none) × (E .limit ≡ limit)
+  pub every-edition : (none limit greatest : ℕ) → limit ≤ none → greatest < 2 ^ 32
+      → (E : Edition) × (E .none ≡ none) × (E .limit ≡ limit) × (E .greatest ≡ greatest)

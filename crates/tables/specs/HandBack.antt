@@ -1,22 +1,21 @@
 -- Hand back on words: the plan reads and decides, the commit writes and cannot fail. Assumes nothing.
-use mathlib.Core.Bool.{Bool, true, false}
+use mathlib.Core.Bool.{Bool, true, false, cond}
 use mathlib.Core.List.{List}
 use Prim.Native.Nat.{ℕ, _+_}
 use lib.Dec.{ltb, eqb}
 use Rattle.basics.specs.Sum.{one}
 use Rattle.ledger.specs.Ledger.{Answer, done, refused}
-use Rattle.tables.specs.Layout.{pick, dataOffset, dataSize, neighborPrev, neighborNext, used, word}
+use Rattle.tables.specs.Layout.{dataOffset, dataSize, neighborPrev, neighborNext, used, word}
 use Rattle.tables.specs.Words.{Words, Edition, Bounds, bounds, withTotal}
 use Rattle.tables.specs.Steps.{insert, unlink, pushPile}
-use Rattle.tables.specs.Gate.{gateOf, gated}
 
 -- the record is below the count and marked live
 unfoldable pub isLive : (nodes : List ℕ) → (count r : ℕ) → Bool
-isLive nodes count r = pick (ltb r count) (pick (eqb (word nodes used r) 0) false true) false
+isLive nodes count r = cond (ltb r count) (cond (eqb (word nodes used r) 0) false true) false
 
 -- a neighbour that is a record and not live
 unfoldable pub isFree : (nodes : List ℕ) → (count q : ℕ) → Bool
-isFree nodes count q = pick (ltb q count) (eqb (word nodes used q) 0) false
+isFree nodes count q = cond (ltb q count) (eqb (word nodes used q) 0) false
 
 -- What the merged region will be: its length, its offset, its neighbours p and x, and the kept total with it.
 pub record Merged : Type 0 where
@@ -34,20 +33,20 @@ pub data BackPlan : Type 0 where
 -- ---- the plan. On sound tables it never stops with 6.
 unfoldable pub mergedOf : Words → (r p x : ℕ) → (p-free x-free : Bool) → Merged
 mergedOf w r p x p-free x-free = record {
-  length = pick p-free (word (w .nodes) dataSize p) 0 + word (w .nodes) dataSize r
-      + pick x-free (word (w .nodes) dataSize x) 0;
-  start = pick p-free (word (w .nodes) dataOffset p) (word (w .nodes) dataOffset r);
-  before = pick p-free (word (w .nodes) neighborPrev p) p;
-  after = pick x-free (word (w .nodes) neighborNext x) x;
+  length = cond p-free (word (w .nodes) dataSize p) 0 + word (w .nodes) dataSize r
+      + cond x-free (word (w .nodes) dataSize x) 0;
+  start = cond p-free (word (w .nodes) dataOffset p) (word (w .nodes) dataOffset r);
+  before = cond p-free (word (w .nodes) neighborPrev p) p;
+  after = cond x-free (word (w .nodes) neighborNext x) x;
   total = w .total + word (w .nodes) dataSize r;
 }
 
 -- neither the merged length nor the kept total passes the size, and the pile has room
 unfoldable pub planMerged : Words → (p x : ℕ) → (p-free x-free : Bool) → Merged → BackPlan
 planMerged w p x p-free x-free m =
-    pick (ltb (w .size) (m .length)) (stop 6)
-    (pick (ltb (w .size) (m .total)) (stop 6)
-    (pick (ltb (w .off + one p-free + one x-free) (w .count)) (merge p x p-free x-free m) (stop 6)))
+    cond (ltb (w .size) (m .length)) (stop 6)
+    (cond (ltb (w .size) (m .total)) (stop 6)
+    (cond (ltb (w .off + one p-free + one x-free) (w .count)) (merge p x p-free x-free m) (stop 6)))
 
 unfoldable pub planSides : Words → (r p x : ℕ) → (p-free x-free : Bool) → BackPlan
 unfolding planMerged mergedOf
@@ -60,14 +59,14 @@ planNeighbours w r p x = planSides w r p x (isFree (w .nodes) (w .count) p) (isF
 unfoldable pub planBack : Words → ℕ → BackPlan
 unfolding planNeighbours isLive
 planBack w r =
-    pick (isLive (w .nodes) (w .count) r)
+    cond (isLive (w .nodes) (w .count) r)
     (planNeighbours w r (word (w .nodes) neighborPrev r) (word (w .nodes) neighborNext r))
     (stop 5)
 
 -- ---- the commit
 -- a free neighbour leaves its class, and its record goes onto the pile: the one before first
 abbrev pub dropIf : Bounds → Bool → ℕ → Words → Words
-dropIf K is-free q w = pick is-free (pushPile (unlink K w q) q) w
+dropIf K is-free q w = cond is-free (pushPile (unlink K w q) q) w
 
 unfoldable pub merging : Bounds → Words → (r p x : ℕ) → (p-free x-free : Bool) → Merged → Words
 merging K w r p x p-free x-free m =
@@ -79,7 +78,3 @@ unfoldable pub doBack : Edition → Words → ℕ → BackPlan → Answer × Wor
 unfolding merging
 doBack E w r (stop k) = (refused k, w)
 doBack E w r (merge p x p-free x-free m) = (done, merging (bounds E w) w r p x p-free x-free m)
-
-unfoldable pub backWords : Edition → Words → ℕ → Answer × Words
-unfolding gated gateOf doBack planBack
-backWords E w r = gated (gateOf E w) w (doBack E w r (planBack w r))

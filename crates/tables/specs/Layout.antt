@@ -1,14 +1,9 @@
 -- The words of a record: word k of record r stands at 8 r + k of `nodes`. Assumes nothing.
-use mathlib.Core.Bool.{Bool, true, false}
+use mathlib.Core.Bool.{cond}
 use mathlib.Core.List.{List}
 use Prim.Native.Nat.{ℕ, _+_, _*_}
 use lib.Dec.{ltb}
 use lib.ListN.{getD, set}
-
--- the one of two that a test picks
-abbrev pub pick {ℓ} : {A : Type ℓ} → Bool → A → A → A
-pick true a b = a
-pick false a b = b
 
 -- ---- the eight words, by the Rust's names
 abbrev pub dataOffset : ℕ
@@ -44,7 +39,7 @@ put r k v nodes = set nodes (8 * r + k) v
 
 -- a write to the record that a link names; nothing where the link is no record below the count
 unfoldable pub putLink : (count r k v : ℕ) → List ℕ → List ℕ
-putLink count r k v nodes = pick (ltb r count) (put r k v nodes) nodes
+putLink count r k v nodes = cond (ltb r count) (put r k v nodes) nodes
 
 -- ---- the lengths that a count of records needs
 abbrev pub nodesNeeded : ℕ → ℕ

@@ -3,7 +3,7 @@ use mathlib.Core.Path.{_≡_}
 use mathlib.Core.List.{List}
 use Prim.Native.Nat.{ℕ, _+_, _^_, _≤_, _<_}
 use Rattle.ledger.specs.Ledger.{Ledger, Answer, granted, done, refused, setup, by-class, Stacks}
-use Rattle.ledger.specs.Calls.{Call, Take, answer}
+use Rattle.ledger.specs.Calls.{Request, Call, Take, answer}
 use Rattle.tables.specs.Words.{Words, Edition}
 use Rattle.tables.specs.Setup.{Lent, zeros, setupWords}
 use Rattle.tables.specs.Calls.{answerWords}
@@ -19,7 +19,7 @@ pub record Promise (E : Edition) (c : Call) (w v : Words) (a : Answer) : Type 0 
   -- a refusal leaves every word as it came
   pub kept : (k : ℕ) → a ≡ refused k → v ≡ w
   -- a grant lies inside the store, on any tables
-  pub inside : (s o r : ℕ) → c ≡ Take s → a ≡ granted o r → o + s ≤ w .size
+  pub inside : (asked : Request) (o r : ℕ) → c ≡ Take asked → a ≡ granted o r → o + asked .size ≤ w .size
 
 -- setup with this size and count, lent these arrays and tables, answers a and leaves the words v: the same parts, but that no grant is made
 pub record SetupPromise (E : Edition) (size count : ℕ) (lent : Lent) (v : Words) (a : Answer) : Type 0 where

@@ -1,28 +1,27 @@
--- The questions on words: size query, and both reports. Assumes nothing.
+-- What the questions answer on words: size query, and both reports. Assumes nothing.
+use mathlib.Core.Bool.{cond}
 use mathlib.Core.List.{List, map}
 use Prim.Native.Nat.{ℕ, zero, suc, _+_, _*_}
 use lib.Dec.{ltb, eqb}
 use lib.ListN.{getD, set, replicate}
 use Rattle.small_float.specs.Class.{value, shownValue, classesInUse}
 use Rattle.ledger.specs.Ledger.{Answer, length-is, reported, classes, refused, numbersFrom}
-use Rattle.tables.specs.Layout.{pick, dataSize, binNext, word}
-use Rattle.tables.specs.Words.{Words, Edition}
-use Rattle.tables.specs.Gate.{gateOf, gated}
+use Rattle.tables.specs.Layout.{dataSize, binNext, word}
+use Rattle.tables.specs.Words.{Words}
 use Rattle.tables.specs.Search.{highBit}
 use Rattle.tables.specs.HandBack.{isLive}
 
-unfoldable pub sizeWords : Edition → Words → ℕ → Answer × Words
-unfolding gated gateOf isLive
-sizeWords E w r =
-    gated (gateOf E w) w (pick (isLive (w .nodes) (w .count) r) (length-is (word (w .nodes) dataSize r)) (refused 5), w)
+unfoldable pub lengthOf : Words → ℕ → Answer
+unfolding isLive
+lengthOf w r = cond (isLive (w .nodes) (w .count) r) (length-is (word (w .nodes) dataSize r)) (refused 5)
 
 -- ---- storage_report: the highest class, from the leading zeros of the top word and of its leaf byte
 unfoldable pub reportClass : Words → (c : ℕ) → Answer
-reportClass w c = pick (ltb c classesInUse) (reported (w .total) (value c)) (refused 6)
+reportClass w c = cond (ltb c classesInUse) (reported (w .total) (value c)) (refused 6)
 
 unfoldable pub reportLeaf : Words → (t m : ℕ) → Answer
 unfolding reportClass highBit
-reportLeaf w t m = pick (eqb m 0) (refused 6) (reportClass w (8 * t + highBit m))
+reportLeaf w t m = cond (eqb m 0) (refused 6) (reportClass w (8 * t + highBit m))
 
 unfoldable pub reportTop : Words → (t : ℕ) → Answer
 unfolding reportLeaf
@@ -31,12 +30,8 @@ reportTop w t = reportLeaf w t (getD (w .leaves) t 0)
 unfoldable pub reportOf : Words → Answer
 unfolding reportTop highBit
 reportOf w =
-    pick (eqb (w .off) 0) (reported 0 0)
-    (pick (eqb (w .top) 0) (reported (w .total) 0) (reportTop w (highBit (w .top))))
-
-unfoldable pub reportWords : Edition → Words → Answer × Words
-unfolding gated gateOf reportOf
-reportWords E w = gated (gateOf E w) w (reportOf w, w)
+    cond (eqb (w .off) 0) (reported 0 0)
+    (cond (eqb (w .top) 0) (reported (w .total) 0) (reportTop w (highBit (w .top))))
 
 -- ---- storage_report_full: the length of each class's list; a list of more steps than there are records is circular
 pub data Walked : Type 0 where
@@ -45,9 +40,9 @@ pub data Walked : Type 0 where
 
 -- from record a, n steps having been made, at most fuel more
 unfoldable pub listLength : (fuel : ℕ) → (nodes : List ℕ) → (count a n : ℕ) → Walked
-listLength zero nodes count a n = pick (ltb a count) lost (steps n)
+listLength zero nodes count a n = cond (ltb a count) lost (steps n)
 listLength (suc fuel) nodes count a n =
-    pick (ltb a count) (listLength fuel nodes count (word nodes binNext a) (n + 1)) (steps n)
+    cond (ltb a count) (listLength fuel nodes count (word nodes binNext a) (n + 1)) (steps n)
 
 pub data Counts : Type 0 where
   counts : List ℕ → Counts
@@ -69,6 +64,6 @@ unfolding shownValue numbersFrom
 fullAnswer (counts l) = classes (map (λ (c : ℕ). (shownValue c, getD l c 0)) (numbersFrom 0 256))
 fullAnswer circular = refused 6
 
-unfoldable pub fullWords : Edition → Words → Answer × Words
-unfolding gated gateOf fullAnswer countFrom
-fullWords E w = gated (gateOf E w) w (fullAnswer (countFrom 256 w 0 (replicate 256 0)), w)
+unfoldable pub fullReportOf : Words → Answer
+unfolding fullAnswer countFrom
+fullReportOf w = fullAnswer (countFrom 256 w 0 (replicate 256 0))

@@ -5,14 +5,7 @@ use mathlib.Core.List.{List}
 use Prim.Native.Nat.{ℕ, _%_, _≤_, _<_}
 use lib.ListN.{length, getD, take, drop}
 use Rattle.tables.specs.Layout.{used, nodesNeeded, pileNeeded}
-use Rattle.tables.specs.Words.{Words, Edition, withTables}
-
--- the count is within its limits and the tables are long enough: what an open gate says
-pub record Room (E : Edition) (count nodes pile : ℕ) : Type 0 where
-  pub count-low : 2 ≤ count
-  pub count-high : count ≤ E .limit
-  pub nodes-room : nodesNeeded count ≤ nodes
-  pub pile-room : pileNeeded count ≤ pile
+use Rattle.tables.specs.Words.{Words, withTables}
 
 -- ---- written: for tables of n records, what stays between w and v
 pub record KeptBeyond (n : ℕ) (w v : Words) : Type 0 where
@@ -33,13 +26,7 @@ pub record AgreeOn (k : ℕ) (a b : List ℕ) : Type 0 where
   pub same : (i : ℕ) → i < k → getD a i 0 ≡ getD b i 0
 
 pub record Agree (n : ℕ) (w v : Words) : Type 0 where
-  pub size-is : w .size ≡ v .size
-  pub count-is : w .count ≡ v .count
-  pub total-is : w .total ≡ v .total
-  pub off-is : w .off ≡ v .off
-  pub top-is : w .top ≡ v .top
-  pub leaves-is : w .leaves ≡ v .leaves
-  pub heads-is : w .heads ≡ v .heads
+  pub one-head : withTables w (v .nodes) (v .pile) ≡ v
   pub nodes-is : AgreeOn (nodesNeeded n) (w .nodes) (v .nodes)
   pub pile-is : AgreeOn (pileNeeded n) (w .pile) (v .pile)
 

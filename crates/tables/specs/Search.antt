@@ -1,10 +1,10 @@
 -- The search for a class, by the two levels of bits: the top word, and the leaf bytes. Assumes nothing.
+use mathlib.Core.Bool.{cond}
 use mathlib.Core.List.{List}
 use Prim.Native.Nat.{ℕ, _+_, _*_, _-_, _/_, _%_, _^_}
 use lib.Dec.{ltb, eqb}
 use lib.ListN.{getD}
 use lib.Count.{leadingZeros, trailingZeros}
-use Rattle.tables.specs.Layout.{pick}
 
 -- what a search comes to: a class that holds something; none does; or the bits contradict each other
 pub data Found : Type 0 where
@@ -14,21 +14,21 @@ pub data Found : Type 0 where
 
 -- the lowest set bit of a 32-bit word at or above i; 32 where there is none
 unfoldable pub lowFrom : (m i : ℕ) → ℕ
-lowFrom m i = pick (eqb (m / 2 ^ i) 0) 32 (i + trailingZeros 32 (m / 2 ^ i))
+lowFrom m i = cond (eqb (m / 2 ^ i) 0) 32 (i + trailingZeros 32 (m / 2 ^ i))
 
 -- the lowest class of top bin t, whose leaf byte is m: a byte of 0 under a set top bit is a contradiction
 unfoldable pub leafLow : (t m : ℕ) → Found
-leafLow t m = pick (eqb m 0) bad-bits (class-is (8 * t + trailingZeros 32 m))
+leafLow t m = cond (eqb m 0) bad-bits (class-is (8 * t + trailingZeros 32 m))
 
 -- the lowest class of top bin t, if there is such a bin
 unfoldable pub lowInBin : (leaves : List ℕ) → (t : ℕ) → Found
 unfolding leafLow
-lowInBin leaves t = pick (ltb t 32) (leafLow t (getD leaves t 0)) no-class
+lowInBin leaves t = cond (ltb t 32) (leafLow t (getD leaves t 0)) no-class
 
 -- leaf l of top bin t if there is one; otherwise the search goes on at the next top bin, and there from its lowest leaf
 unfoldable pub leafOrAbove : (leaves : List ℕ) → (top t l : ℕ) → Found
 unfolding lowInBin lowFrom
-leafOrAbove leaves top t l = pick (ltb l 8) (class-is (8 * t + l)) (lowInBin leaves (lowFrom top (t + 1)))
+leafOrAbove leaves top t l = cond (ltb l 8) (class-is (8 * t + l)) (lowInBin leaves (lowFrom top (t + 1)))
 
 -- the lowest class from c on that holds something
 unfoldable pub findClass : (leaves : List ℕ) → (top c : ℕ) → Found

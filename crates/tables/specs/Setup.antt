@@ -1,4 +1,4 @@
--- Setup and reset on words. Accepted, they write the head, word 6 of each record below the count, the seven words of record 0, and the pile up to
+-- Setup on words, and what a reset leaves. Accepted, they write the head, word 6 of each record below the count, the seven words of record 0, and the pile up to
 -- the count; every other word stays as it came. Refused, they write nothing. Assumes nothing.
 use mathlib.Core.List.{List}
 use Prim.Native.Nat.{ℕ, zero, suc, _-_}
@@ -7,7 +7,7 @@ use Rattle.ledger.specs.Ledger.{Answer, done}
 use Rattle.tables.specs.Layout.{used, put}
 use Rattle.tables.specs.Words.{Words, Edition, bounds}
 use Rattle.tables.specs.Steps.{insert, popPile}
-use Rattle.tables.specs.Gate.{gate, gateOf, gated}
+use Rattle.tables.specs.Gate.{setupGate, gated}
 
 -- the first k records marked not live
 unfoldable pub wiped : ℕ → List ℕ → List ℕ
@@ -70,10 +70,6 @@ abbrev pub tablesAlone : (nodes pile : List ℕ) → Lent
 tablesAlone nodes pile = lentOf (replicate 256 0) (replicate 32 0) nodes pile
 
 unfoldable pub setupWords : Edition → (size count : ℕ) → Lent → Answer × Words
-unfolding gated gate fresh
+unfolding gated setupGate fresh
 setupWords E size count lent =
-    gated (gate E 1 count (length (lent .nodes)) (length (lent .pile))) (zeros lent) (done, fresh E size count (lent .nodes) (lent .pile))
-
-unfoldable pub resetWords : Edition → Words → Answer × Words
-unfolding gated gateOf fresh
-resetWords E w = gated (gateOf E w) w (done, fresh E (w .size) (w .count) (w .nodes) (w .pile))
+    gated (setupGate E size count (length (lent .nodes)) (length (lent .pile))) (zeros lent) (done, fresh E size count (lent .nodes) (lent .pile))

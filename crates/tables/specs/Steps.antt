@@ -1,12 +1,13 @@
 -- The steps that the calls are made of. None of them touches size, count or total. Assumes nothing.
+use mathlib.Core.Bool.{cond}
 use mathlib.Core.List.{List}
 use Prim.Native.Nat.{ℕ, _+_, _-_, _/_, _%_, _^_}
 use lib.Dec.{ltb, eqb}
 use lib.ListN.{getD, set}
 use lib.Bits.{bitOr, bitAnd}
 use Rattle.small_float.specs.Class.{down}
-use Rattle.tables.specs.Layout.{pick, dataOffset, dataSize, binPrev, binNext, neighborPrev, neighborNext, used, word, put, putLink}
-use Rattle.tables.specs.Words.{Words, Bounds}
+use Rattle.tables.specs.Layout.{dataOffset, dataSize, binPrev, binNext, neighborPrev, neighborNext, used, word, put, putLink}
+use Rattle.tables.specs.Words.{Words, Bounds, withLists, withPile}
 
 -- bit k of a number set; cleared, in a number of b bits
 abbrev pub setBit : ℕ → ℕ → ℕ
@@ -33,17 +34,12 @@ module _ (K : Bounds) where
 
   -- a class that was empty has its bit set, and the bit of its leaf byte
   unfoldable pub insertAt : Words → (s o c h m p x : ℕ) → Words
-  insertAt w s o c h m p x = record {
-    size = w .size;
-    count = w .count;
-    total = w .total;
-    off = w .off;
-    top = pick (ltb h (K .n)) (w .top) (setBit (w .top) (c / 8));
-    leaves = pick (ltb h (K .n)) (w .leaves) (set (w .leaves) (c / 8) (setBit (getD (w .leaves) (c / 8) 0) (c % 8)));
-    heads = set (w .heads) c m;
-    nodes = joinNodes m p x (insertNodes m s o h p x (w .nodes));
-    pile = w .pile;
-  }
+  insertAt w s o c h m p x =
+      withLists w
+      (cond (ltb h (K .n)) (w .top) (setBit (w .top) (c / 8)))
+      (cond (ltb h (K .n)) (w .leaves) (set (w .leaves) (c / 8) (setBit (getD (w .leaves) (c / 8) 0) (c % 8))))
+      (set (w .heads) c m)
+      (joinNodes m p x (insertNodes m s o h p x (w .nodes)))
 
   unfoldable pub insert : Words → (s o m p x : ℕ) → Words
   insert w s o m p x = insertAt w s o (down s) (getD (w .heads) (down s) 0) m p x
@@ -51,48 +47,23 @@ module _ (K : Bounds) where
   -- ---- remove_node_from_bin, but for the pile: a record of class c, with p before it and x after it in its list, leaves the list;
   -- if it was the only one its bit is cleared, and where its leaf byte is then 0 the byte's bit too
   unfoldable pub unlinkAt : Words → (c p x : ℕ) → Words
-  unlinkAt w c p x = record {
-    size = w .size;
-    count = w .count;
-    total = w .total;
-    off = w .off;
-    top = pick (ltb p (K .n)) (w .top)
-        (pick (ltb x (K .n)) (w .top)
-        (pick (eqb (clearBit 8 (getD (w .leaves) (c / 8) 0) (c % 8)) 0) (clearBit 32 (w .top) (c / 8)) (w .top)));
-    leaves = pick (ltb p (K .n)) (w .leaves)
-        (pick (ltb x (K .n)) (w .leaves)
-        (set (w .leaves) (c / 8) (clearBit 8 (getD (w .leaves) (c / 8) 0) (c % 8))));
-    heads = pick (ltb p (K .n)) (w .heads) (set (w .heads) c x);
-    nodes = putLink (K .n) x binPrev p (putLink (K .n) p binNext x (w .nodes));
-    pile = w .pile;
-  }
+  unlinkAt w c p x =
+      withLists w
+      (cond (ltb p (K .n)) (w .top)
+      (cond (ltb x (K .n)) (w .top)
+      (cond (eqb (clearBit 8 (getD (w .leaves) (c / 8) 0) (c % 8)) 0) (clearBit 32 (w .top) (c / 8)) (w .top))))
+      (cond (ltb p (K .n)) (w .leaves)
+      (cond (ltb x (K .n)) (w .leaves)
+      (set (w .leaves) (c / 8) (clearBit 8 (getD (w .leaves) (c / 8) 0) (c % 8)))))
+      (cond (ltb p (K .n)) (w .heads) (set (w .heads) c x))
+      (putLink (K .n) x binPrev p (putLink (K .n) p binNext x (w .nodes)))
 
   unfoldable pub unlink : Words → ℕ → Words
   unlink w r = unlinkAt w (down (word (w .nodes) dataSize r)) (word (w .nodes) binPrev r) (word (w .nodes) binNext r)
 
 -- ---- the pile: a record goes onto it; its top leaves it
 unfoldable pub pushPile : Words → ℕ → Words
-pushPile w r = record {
-  size = w .size;
-  count = w .count;
-  total = w .total;
-  off = w .off + 1;
-  top = w .top;
-  leaves = w .leaves;
-  heads = w .heads;
-  nodes = w .nodes;
-  pile = set (w .pile) (w .off + 1) r;
-}
+pushPile w r = withPile w (w .off + 1) (set (w .pile) (w .off + 1) r)
 
 unfoldable pub popPile : Words → Words
-popPile w = record {
-  size = w .size;
-  count = w .count;
-  total = w .total;
-  off = w .off - 1;
-  top = w .top;
-  leaves = w .leaves;
-  heads = w .heads;
-  nodes = w .nodes;
-  pile = w .pile;
-}
+popPile w = withPile w (w .off - 1) (w .pile)

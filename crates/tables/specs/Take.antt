@@ -1,13 +1,13 @@
 -- Take on words: the plan reads and decides, the commit writes and cannot fail. Assumes nothing.
+use mathlib.Core.Bool.{cond}
 use Prim.Native.Nat.{ℕ, _+_, _-_}
 use lib.Dec.{ltb, eqb}
 use lib.ListN.{getD}
 use Rattle.small_float.specs.Class.{up}
 use Rattle.ledger.specs.Ledger.{Answer, granted, refused}
-use Rattle.tables.specs.Layout.{pick, dataOffset, dataSize, binNext, neighborNext, used, word, put}
+use Rattle.tables.specs.Layout.{dataOffset, dataSize, binNext, neighborNext, used, word, put}
 use Rattle.tables.specs.Words.{Words, Edition, Bounds, bounds, withNodes, withTotal}
 use Rattle.tables.specs.Steps.{insert, unlinkAt, popPile}
-use Rattle.tables.specs.Gate.{gateOf, gated}
 use Rattle.tables.specs.Search.{Found, class-is, no-class, bad-bits, findClass}
 
 -- a refusal; or the class and record of a region, its offset, and that its length is just right;
@@ -20,35 +20,35 @@ pub data TakePlan : Type 0 where
 -- ---- the plan. On sound tables it never stops with 6.
 -- a remainder needs the record on top of the pile
 unfoldable pub planSpare : Words → (c r o rest m : ℕ) → TakePlan
-planSpare w c r o rest m = pick (ltb (w .off) (w .count)) (pick (ltb m (w .count)) (split c r o rest m) (stop 6)) (stop 6)
+planSpare w c r o rest m = cond (ltb (w .off) (w .count)) (cond (ltb m (w .count)) (split c r o rest m) (stop 6)) (stop 6)
 
 -- the region is long enough, lies in the store, and the kept total has room for the request
 unfoldable pub planRegion : Words → (s c r z o : ℕ) → TakePlan
 unfolding planSpare
 planRegion w s c r z o =
-    pick (ltb z s) (stop 6)
-    (pick (ltb (w .size) (o + z)) (stop 6)
-    (pick (ltb (w .total) s) (stop 6)
-    (pick (eqb z s) (whole c r o)
+    cond (ltb z s) (stop 6)
+    (cond (ltb (w .size) (o + z)) (stop 6)
+    (cond (ltb (w .total) s) (stop 6)
+    (cond (eqb z s) (whole c r o)
     (planSpare w c r o (z - s) (getD (w .pile) (w .off) 0)))))
 
 -- the top of the class is a record
 unfoldable pub planRecord : Words → (s c r : ℕ) → TakePlan
 unfolding planRegion
 planRecord w s c r =
-    pick (ltb r (w .count)) (planRegion w s c r (word (w .nodes) dataSize r) (word (w .nodes) dataOffset r)) (stop 6)
+    cond (ltb r (w .count)) (planRegion w s c r (word (w .nodes) dataSize r) (word (w .nodes) dataOffset r)) (stop 6)
 
 -- there is a class, and the head has a place for it
 unfoldable pub planClass : Words → ℕ → Found → TakePlan
 unfolding planRecord
-planClass w s (class-is c) = pick (ltb c 256) (planRecord w s c (getD (w .heads) c 0)) (stop 6)
+planClass w s (class-is c) = cond (ltb c 256) (planRecord w s c (getD (w .heads) c 0)) (stop 6)
 planClass w s no-class = stop 4
 planClass w s bad-bits = stop 6
 
 -- more than one record is spare
 unfoldable pub planTake : Words → ℕ → TakePlan
 unfolding planClass findClass
-planTake w s = pick (eqb (w .off) 0) (stop 3) (planClass w s (findClass (w .leaves) (w .top) (up s)))
+planTake w s = cond (eqb (w .off) 0) (stop 3) (planClass w s (findClass (w .leaves) (w .top) (up s)))
 
 -- ---- the commit
 -- the top of class c leaves its list and becomes live with length s
@@ -68,7 +68,3 @@ unfolding granting splitting
 doTake E w s (stop k) = (refused k, w)
 doTake E w s (whole c r o) = (granted o r, withTotal (granting (bounds E w) w s c r) (w .total - s))
 doTake E w s (split c r o rest m) = (granted o r, withTotal (splitting (bounds E w) w s c r o rest m) (w .total - s))
-
-unfoldable pub takeWords : Edition → Words → ℕ → Answer × Words
-unfolding gated gateOf doTake planTake
-takeWords E w s = gated (gateOf E w) w (doTake E w s (planTake w s))

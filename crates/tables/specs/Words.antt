@@ -1,6 +1,6 @@
 -- All the words of an allocator: the head's, and the two lent tables'. Assumes nothing.
 use mathlib.Core.List.{List}
-use Prim.Native.Nat.{ℕ, _≤_}
+use Prim.Native.Nat.{ℕ, _^_, _≤_, _<_}
 
 pub record Words : Type 0 where
   pub size : ℕ  -- size
@@ -13,11 +13,14 @@ pub record Words : Type 0 where
   pub nodes : List ℕ  -- nodes, lent: 8 words to a record
   pub pile : List ℕ  -- free_nodes, lent: one word to a record
 
--- An edition: the marker of an absent link, and the greatest count of records.
+-- An edition: the marker of an absent link, the greatest count of records, and the greatest size of a store. Every count is below the marker, so
+-- that no record is taken for an absent one, and every size is a 32-bit number, so that it has a class.
 pub record Edition : Type 0 where
   pub none : ℕ
   pub limit : ℕ
+  pub greatest : ℕ
   pub small : limit ≤ none
+  pub fits : greatest < 2 ^ 32
 
 -- what a step must know: the count of records, and the marker
 pub record Bounds : Type 0 where
@@ -27,21 +30,9 @@ pub record Bounds : Type 0 where
 abbrev pub bounds : Edition → Words → Bounds
 bounds E w = record { n = w .count; none = E .none }
 
--- the same words with other nodes, with another total, with other tables
-abbrev pub withNodes : Words → List ℕ → Words
-withNodes w nodes = record {
-  size = w .size;
-  count = w .count;
-  total = w .total;
-  off = w .off;
-  top = w .top;
-  leaves = w .leaves;
-  heads = w .heads;
-  nodes = nodes;
-  pile = w .pile;
-}
-
-abbrev pub withTotal : Words → ℕ → Words
+-- ---- the same words with one thing changed. Whoever changes words goes through these, so that a new word is named here alone
+-- another free total
+abbrev pub withTotal : Words → (total : ℕ) → Words
 withTotal w total = record {
   size = w .size;
   count = w .count;
@@ -54,6 +45,21 @@ withTotal w total = record {
   pile = w .pile;
 }
 
+-- other words in the records
+abbrev pub withNodes : Words → (nodes : List ℕ) → Words
+withNodes w nodes = record {
+  size = w .size;
+  count = w .count;
+  total = w .total;
+  off = w .off;
+  top = w .top;
+  leaves = w .leaves;
+  heads = w .heads;
+  nodes = nodes;
+  pile = w .pile;
+}
+
+-- other tables, under the same head
 abbrev pub withTables : Words → (nodes pile : List ℕ) → Words
 withTables w nodes pile = record {
   size = w .size;
@@ -64,5 +70,33 @@ withTables w nodes pile = record {
   leaves = w .leaves;
   heads = w .heads;
   nodes = nodes;
+  pile = pile;
+}
+
+-- other class lists: their bits, their tops, and the records that they link
+abbrev pub withLists : Words → (top : ℕ) → (leaves heads nodes : List ℕ) → Words
+withLists w top leaves heads nodes = record {
+  size = w .size;
+  count = w .count;
+  total = w .total;
+  off = w .off;
+  top = top;
+  leaves = leaves;
+  heads = heads;
+  nodes = nodes;
+  pile = w .pile;
+}
+
+-- another pile
+abbrev pub withPile : Words → (off : ℕ) → (pile : List ℕ) → Words
+withPile w off pile = record {
+  size = w .size;
+  count = w .count;
+  total = w .total;
+  off = off;
+  top = w .top;
+  leaves = w .leaves;
+  heads = w .heads;
+  nodes = w .nodes;
   pile = pile;
 }

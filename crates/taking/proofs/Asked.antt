@@ -12,7 +12,7 @@ use Rattle.small_float.specs.Class.{up}
 use Rattle.tables.specs.Words.{Words}
 use Rattle.tables.specs.Search.{Found, class-is, no-class, bad-bits, findClass}
 use Rattle.tables.specs.Take.{TakePlan, stop, planRecord, planClass, planTake}
-use Rattle.bins.specs.InWords.{Tells}
+use Rattle.bitmap.specs.InBits.{Tells}
 use Rattle.taking.specs.Answers.{StoppedBy}
 
 -- the four cases, each with the test that leads there and what was found

@@ -4,11 +4,11 @@ use mathlib.Core.Path.{_≡_, sym, ap, _∙_}
 use mathlib.Core.List.{List}
 use Prim.Native.Nat.{ℕ, _-_}
 use Rattle.ledger.specs.Ledger.{Answer, granted, refused}
-use Rattle.ledger.specs.Calls.{Take}
+use Rattle.ledger.specs.Calls.{Take, takes}
 use Rattle.tables.specs.Words.{Words, Edition, bounds, withTotal}
 use Rattle.tables.specs.Gate.{gateOf}
-use Rattle.tables.specs.Take.{TakePlan, stop, whole, split, planTake, granting, splitting, doTake, takeWords}
-use Rattle.tables.specs.Calls.{answerWords}
+use Rattle.tables.specs.Take.{TakePlan, stop, whole, split, planTake, granting, splitting, doTake}
+use Rattle.tables.specs.Calls.{answerWords, behind}
 use Rattle.tables.proofs.Gate.{gated-open}
 use Rattle.bins.specs.declared.totals.Totals.{Totals}
 use Rattle.bins.specs.InWords.{wordsOf}
@@ -34,6 +34,6 @@ module _ (E : Edition) (w : Words) where
   taken-part s {r = r} {o = o} e f = ap (λ (u : Words). (granted o r, u)) f ∙ ap (λ (p : TakePlan). doTake E w s p) (sym e)
 
   -- behind an open gate
-  pub let-in : (s : ℕ) (a : Answer) (v : Words) → gateOf E w ≡ 0 → (a, v) ≡ doTake E w s (planTake w s) → (a, v) ≡ answerWords E (Take s) w
-  unfolding answerWords takeWords
+  pub let-in : (s : ℕ) (a : Answer) (v : Words) → gateOf E w ≡ 0 → (a, v) ≡ doTake E w s (planTake w s) → (a, v) ≡ answerWords E (takes s) w
+  unfolding answerWords behind
   let-in s a v g e = e ∙ sym (gated-open (gateOf E w) w _ g)

@@ -6,15 +6,8 @@ use Rattle.tables.specs.Words.{Words}
 use Rattle.tables.specs.Calls.{edition32}
 use Rattle.tables.specs.Take.{TakePlan, stop, whole, split, planTake, doTake}
 use Rattle.answers.specs.Refusals.{numberOf}
-use Rattle.taking.specs.declared.TakeAnswer.{TakeAnswer}
-use Rattle.taking.specs.declared.TakeAnswer.the-variants.{Granted, Refused}
 use Rattle.taking.specs.declared.plan.Planned.{Planned}
 use Rattle.taking.specs.declared.plan.Planned.the-variants.{Stop, Whole, Split}
-
--- document 01's number and figures for each answer
-abbrev pub answerOf : TakeAnswer → Answer
-answerOf (Granted span) = granted (span .offset) (span .metadata .0)
-answerOf (Refused why) = refused (numberOf why)
 
 abbrev pub planOf : Planned → TakePlan
 planOf (Stop why) = stop (numberOf why)

@@ -7,11 +7,14 @@ ghost use lib.ListN.{length};
 ghost use Rattle.tables.specs.Calls.{edition32};
 ghost use Rattle.tables.specs.Promise.{Promise};
 ghost use Rattle.answers.specs.Refusals.{numberOf};
+ghost use Rattle.answers.specs.Asked.{requestOf};
 ghost use Rattle.bins.specs.InWords.{wordsOf, HasRoom};
-ghost use Rattle.taking.specs.Answers.{answerOf, TakesAsPlanned};
+ghost use Rattle.answers.specs.Answers.{takeSays};
+ghost use Rattle.taking.specs.Answers.{TakesAsPlanned};
 use answers::Allocation;
 use answers::Handle;
 use answers::Refusal;
+use answers::TakeAnswer;
 use bins::gate::Gate;
 use bins::totals::Totals;
 use plan::Planned;
@@ -20,18 +23,13 @@ use small_float::Size;
 mod commit;
 mod plan;
 
-pub enum TakeAnswer {
-    Granted(Allocation),
-    Refused(Refusal),
-}
-
 pub struct Taken {
     pub answer: TakeAnswer,
     pub totals: Totals,
 }
 
 fn refuse(why: Refusal, t: Totals) -> Taken
-    ensures { λ r. ⌜ (answerOf (r .answer) ≡ refused (numberOf why)) × (r .totals ≡ t) ⌝ }
+    ensures { λ r. ⌜ (takeSays (r .answer) ≡ refused (numberOf why)) × (r .totals ≡ t) ⌝ }
 {
     Taken {
         answer: TakeAnswer::Refused(why),
@@ -40,7 +38,7 @@ fn refuse(why: Refusal, t: Totals) -> Taken
 }
 
 fn grant(offset: u32, r: u32, t: Totals) -> Taken
-    ensures { λ g. ⌜ (answerOf (g .answer) ≡ granted offset r) × (g .totals ≡ t) ⌝ }
+    ensures { λ g. ⌜ (takeSays (g .answer) ≡ granted offset r) × (g .totals ≡ t) ⌝ }
 {
     let span = Allocation {
         offset: offset,
@@ -66,7 +64,7 @@ fn take(
     ensures { λ a. ⌜ TakesAsPlanned size
         (wordsOf t (now («bin_indices» .entry)) (now («used_bins» .entry)) (now (nodes .entry)) (now («free_nodes» .entry)))
         (wordsOf (a .totals) (now («bin_indices» .exit)) (now («used_bins» .exit)) (now (nodes .exit)) (now («free_nodes» .entry)))
-        (answerOf (a .answer)) ⌝ }
+        (takeSays (a .answer)) ⌝ }
 {
     match plan::plan(t, bin_indices, used_bins, nodes, free_nodes, size) {
         Planned::Stop(why) => refuse(why, t),
@@ -95,16 +93,16 @@ fn take(
 // A span of this size, or why not.
 pub fn allocate(
     t: Totals,
+    size: Size,
     bin_indices: &mut [u32; 256],
     used_bins: &mut [u8; 32],
     nodes: &mut [u32],
     free_nodes: &[u32],
-    size: Size,
 ) -> Taken
-    ensures { λ a. ⌜ Promise edition32 (Take (size .0))
+    ensures { λ a. ⌜ Promise edition32 (Take (requestOf size))
         (wordsOf t (now («bin_indices» .entry)) (now («used_bins» .entry)) (now (nodes .entry)) (now («free_nodes» .entry)))
         (wordsOf (a .totals) (now («bin_indices» .exit)) (now («used_bins» .exit)) (now (nodes .exit)) (now («free_nodes» .entry)))
-        (answerOf (a .answer)) ⌝ }
+        (takeSays (a .answer)) ⌝ }
 {
     match bins::gate::test(t.max_allocs, nodes, free_nodes, Refusal::Unsound) {
         Gate::Shut(why) => refuse(why, t),

@@ -10,8 +10,8 @@ ghost use Rattle.bins.specs.InWords.{wordsOf, HasRoom};
 ghost use Rattle.taking.specs.Answers.{planOf, StoppedBy};
 use answers::Refusal;
 use bins::nodes;
-use bins::search;
 use bins::totals::Totals;
+use bitmap::search;
 use small_float::Class;
 use small_float::Size;
 

@@ -7,7 +7,7 @@ use native.Mathlib.Omega.{arith}
 use lib.ListN.{getD}
 use Rattle.basics.specs.Sum.{tally}
 use Rattle.ledger.specs.Ledger.{numbersFrom}
-use Rattle.asking.specs.Answers.{columns}
+use Rattle.answers.specs.Answers.{columns}
 use Rattle.telling.specs.Told.{oneIfHeld, classesHeld}
 
 pub at-column : (f : ℕ → ℕ × ℕ) (i n r : ℕ) → i < n → getD (map f (numbersFrom r n)) i (0, 0) ≡ f (r + i)

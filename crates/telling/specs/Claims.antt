@@ -1,11 +1,11 @@
 -- What the rows of the list of runs ask, letter by letter as oracle/README.md has them, and what an answer that agrees with one was. One record,
 -- which proofs/Claims.antt makes. Assumes nothing.
+use mathlib.Core.Bool.{cond}
 use Prim.Native.Nat.{ℕ, _≤_}
 use mathlib.Core.Path.{_≡_}
 use mathlib.Core.Logic.{_≢_, _⊎_}
 use mathlib.Core.List.{List, [], _∷_}
 use lib.Dec.{eqb}
-use Rattle.tables.specs.Layout.{pick}
 use Rattle.replay.specs.declared.rows.Reader.{Reader}
 use Rattle.replay.specs.declared.tally.Verdict.the-variants.{Agrees, Listed}
 use Rattle.replay.specs.Calls.{callVerdict}
@@ -23,12 +23,12 @@ Asks letter numbers c = callOf (rowRead letter numbers) ≡ c
 -- what a row other than x says that was answered, by its letter and its last two numbers: for b and u the port has 5; n, z and f are done
 abbrev pub answerIn : (letter c d : ℕ) → Answer
 answerIn letter c d =
-    pick (eqb letter 116) (answer.Granted c d)
-    (pick (eqb letter 108) (answer.Length d)
-    (pick (eqb letter 114) (answer.Free c d)
-    (pick (eqb letter 103) (answer.Regions c d)
-    (pick (eqb letter 101) (answer.Held d)
-    (pick (eqb letter 98) (answer.Refused 5) (pick (eqb letter 117) (answer.Refused 5) answer.Done))))))
+    cond (eqb letter 116) (answer.Granted c d)
+    (cond (eqb letter 108) (answer.Length d)
+    (cond (eqb letter 114) (answer.Free c d)
+    (cond (eqb letter 103) (answer.Regions c d)
+    (cond (eqb letter 101) (answer.Held d)
+    (cond (eqb letter 98) (answer.Refused 5) (cond (eqb letter 117) (answer.Refused 5) answer.Done))))))
 
 pub record RowClaims : Type 0 where
   pub n-asks : (size count : ℕ) → Asks 110 (size ∷ count ∷ []) (call.SetUp size count)

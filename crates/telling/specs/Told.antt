@@ -1,11 +1,11 @@
 -- The ledger's answers, as which every call's answer is put, in the numbers that a row can be held against. Assumes nothing.
+use mathlib.Core.Bool.{cond}
 use Prim.Native.Nat.{ℕ}
 use mathlib.Core.List.{List}
 use lib.Dec.{eqb, leb}
 use lib.ListN.{getD}
 use Rattle.basics.specs.Sum.{tally}
 use Rattle.ledger.specs.Ledger as ledger
-use Rattle.tables.specs.Layout.{pick}
 use Rattle.judging.specs.declared.answer.Answer.{Answer}
 use Rattle.judging.specs.declared.answer.Answer.the-variants as answer
 
@@ -24,11 +24,11 @@ told a = toldAs (λ report. answer.Nothing) a
 
 -- one class's value, and how many free regions it holds
 abbrev pub classIn : (class : ℕ) → List (ℕ × ℕ) → Answer
-classIn class report = pick (leb 256 class) answer.Nothing (answer.Regions (getD report class (0, 0) .0) (getD report class (0, 0) .1))
+classIn class report = cond (leb 256 class) answer.Nothing (answer.Regions (getD report class (0, 0) .0) (getD report class (0, 0) .1))
 
 -- how many classes hold something
 abbrev pub oneIfHeld : ℕ → ℕ
-oneIfHeld regions = pick (eqb regions 0) 0 1
+oneIfHeld regions = cond (eqb regions 0) 0 1
 
 abbrev pub classesHeld : List (ℕ × ℕ) → ℕ
 classesHeld report = tally (λ (class : ℕ × ℕ). oneIfHeld (class .1)) report

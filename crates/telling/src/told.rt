@@ -2,24 +2,24 @@
 ghost use mathlib.Core.Path.{_≡_};
 ghost use mathlib.Core.List.{List};
 ghost use Prim.Native.Nat.{ℕ, _+_, _<_, _≤_};
-ghost use Rattle.starting.specs.Answers.{answerOf as startAnswerOf};
-ghost use Rattle.taking.specs.Answers.{answerOf as takeAnswerOf};
-ghost use Rattle.giving.specs.Answers.{answerOf as backAnswerOf};
-ghost use Rattle.asking.specs.Answers.{sizeAnswerOf, reportAnswerOf, fullAnswerOf, columns};
-ghost use Rattle.auditing.specs.Answers.{answerOf as auditAnswerOf};
+ghost use Rattle.answers.specs.Answers.{startSays};
+ghost use Rattle.answers.specs.Answers.{takeSays};
+ghost use Rattle.answers.specs.Answers.{backSays};
+ghost use Rattle.answers.specs.Answers.{sizeSays, reportSays, fullSays, columns};
+ghost use Rattle.answers.specs.Answers.{auditSays};
 ghost use Rattle.telling.specs.Told.{told, toldAs, classIn, heldIn, oneIfHeld, classesHeld};
-use asking::FullAnswer;
-use asking::FullOutcome;
-use asking::ReportAnswer;
-use asking::SizeAnswer;
-use auditing::AuditAnswer;
-use giving::BackAnswer;
+use answers::AuditAnswer;
+use answers::BackAnswer;
+use answers::FullAnswer;
+use answers::FullOutcome;
+use answers::ReportAnswer;
+use answers::SizeAnswer;
+use answers::StartAnswer;
+use answers::TakeAnswer;
 use judging::answer::Answer;
-use starting::StartAnswer;
-use taking::TakeAnswer;
 
 pub fn of_start(answer: StartAnswer) -> Answer
-    ensures { λ r. ⌜ r ≡ told (startAnswerOf answer) ⌝ }
+    ensures { λ r. ⌜ r ≡ told (startSays answer) ⌝ }
 {
     match answer {
         StartAnswer::Done => Answer::Done,
@@ -28,7 +28,7 @@ pub fn of_start(answer: StartAnswer) -> Answer
 }
 
 pub fn of_take(answer: TakeAnswer) -> Answer
-    ensures { λ r. ⌜ r ≡ told (takeAnswerOf answer) ⌝ }
+    ensures { λ r. ⌜ r ≡ told (takeSays answer) ⌝ }
 {
     match answer {
         TakeAnswer::Granted(span) => {
@@ -40,7 +40,7 @@ pub fn of_take(answer: TakeAnswer) -> Answer
 }
 
 pub fn of_back(answer: BackAnswer) -> Answer
-    ensures { λ r. ⌜ r ≡ told (backAnswerOf answer) ⌝ }
+    ensures { λ r. ⌜ r ≡ told (backSays answer) ⌝ }
 {
     match answer {
         BackAnswer::Done => Answer::Done,
@@ -49,7 +49,7 @@ pub fn of_back(answer: BackAnswer) -> Answer
 }
 
 pub fn of_size(answer: SizeAnswer) -> Answer
-    ensures { λ r. ⌜ r ≡ told (sizeAnswerOf answer) ⌝ }
+    ensures { λ r. ⌜ r ≡ told (sizeSays answer) ⌝ }
 {
     match answer {
         SizeAnswer::Length(size) => Answer::Length(size.0),
@@ -58,7 +58,7 @@ pub fn of_size(answer: SizeAnswer) -> Answer
 }
 
 pub fn of_report(answer: ReportAnswer) -> Answer
-    ensures { λ r. ⌜ r ≡ told (reportAnswerOf answer) ⌝ }
+    ensures { λ r. ⌜ r ≡ told (reportSays answer) ⌝ }
 {
     match answer {
         ReportAnswer::Report(report) => {
@@ -72,7 +72,7 @@ pub fn of_report(answer: ReportAnswer) -> Answer
 
 // Yes is done.
 pub fn of_audit(answer: AuditAnswer) -> Answer
-    ensures { λ r. ⌜ r ≡ told (auditAnswerOf answer) ⌝ }
+    ensures { λ r. ⌜ r ≡ told (auditSays answer) ⌝ }
 {
     match answer {
         AuditAnswer::Sound => Answer::Done,
@@ -82,7 +82,7 @@ pub fn of_audit(answer: AuditAnswer) -> Answer
 
 // One class of a full report.
 pub fn of_class(full: FullAnswer, class: u32) -> Answer
-    ensures { λ r. ⌜ r ≡ toldAs (classIn class) (fullAnswerOf full) ⌝ }
+    ensures { λ r. ⌜ r ≡ toldAs (classIn class) (fullSays full) ⌝ }
 {
     let outcome = full.outcome;
     let sizes = full.sizes;
@@ -124,7 +124,7 @@ fn count_held(counts: &[u32; 256]) -> u32
 
 // How many classes of a full report hold something.
 pub fn of_classes(full: FullAnswer) -> Answer
-    ensures { λ r. ⌜ r ≡ toldAs heldIn (fullAnswerOf full) ⌝ }
+    ensures { λ r. ⌜ r ≡ toldAs heldIn (fullSays full) ⌝ }
 {
     let outcome = full.outcome;
     let counts = full.counts;

@@ -1,13 +1,14 @@
 -- Shut out by the gate, or let in; a live record is below the count. Assumes nothing.
 use mathlib.Core.Path.{sym, _∙_}
 use mathlib.Core.List.{[]}
-use Rattle.ledger.specs.Calls.{SizeOf}
-use Rattle.tables.specs.Calls.{edition32}
+use Rattle.ledger.specs.Calls.{SizeOf, Ask}
+use Rattle.tables.specs.Questions.{lengthOf}
+use Rattle.tables.specs.Calls.{edition32, toldBy}
 use Rattle.tables.proofs.Promise.{promise}
 use Rattle.tables.proofs.Guards.{live-low}
 use Rattle.bins.specs.InWords.{wordsOf}
 use Rattle.bins.proofs.GateWalk.{shut-out, opened, has-room}
-use Rattle.asking.proofs.Walk.{size-answered}
+use Rattle.asking.proofs.Walk.{question-answered}
 use native.Mathlib.Omega.{arith}
 use borrow.Author.Needs.{needs}
 use Rattle.asking.proofs.allocation_size.Statement.{statement}
@@ -39,26 +40,28 @@ word-requires c κs =
     omega (arith, room .nodes-room, low)
 
 returns : tie.Need-returns
-returns c heads leaves =
+unfolding toldBy lengthOf
+returns c =
     let asked = c .before .before in
     let told = asked .before in
     let tested = told .before .before in
-    promise edition32 (SizeOf _) _
-    (size-answered _ (opened _ (tested .test .ensures) (told .enum-told .given .1)) _
+    promise edition32 (Ask (SizeOf _)) _
+    (question-answered _ (opened _ (tested .test .ensures) (told .enum-told .given .1)) (SizeOf _)
     (rw (c .word .ensures, ← (asked .is-live .ensures), c .before .if1 .taken)))
 
 returns-2 : tie.Need-returns-2
-returns-2 c heads leaves =
+returns-2 c =
     let found = c .before in
-    promise edition32 (SizeOf _) _ (shut-out _ (SizeOf _) (found .before .before .test .ensures) (found .why .given .1))
+    promise edition32 (Ask (SizeOf _)) _ (shut-out _ (Ask (SizeOf _)) (found .before .before .test .ensures) (found .why .given .1))
 
 returns-3 : tie.Need-returns-3
-returns-3 c heads leaves =
+unfolding toldBy lengthOf
+returns-3 c =
     let asked = c .before in
     let told = asked .before in
     let tested = told .before .before in
-    promise edition32 (SizeOf _) _
-    (size-answered _ (opened _ (tested .test .ensures) (told .enum-told .given .1)) _
+    promise edition32 (Ask (SizeOf _)) _
+    (question-answered _ (opened _ (tested .test .ensures) (told .enum-told .given .1)) (SizeOf _)
     (rw (← (asked .is-live .ensures), c .if1 .left)))
 
 pub allocation-size-spec : {M : Type 1} → statement M

@@ -1,10 +1,10 @@
 -- Shut out by the gate, or let in. Assumes nothing.
-use Rattle.ledger.specs.Calls.{Report}
+use Rattle.ledger.specs.Calls.{Report, Ask}
 use Rattle.tables.specs.Questions.{reportClass, reportLeaf, reportTop, reportOf}
-use Rattle.tables.specs.Calls.{edition32}
+use Rattle.tables.specs.Calls.{edition32, toldBy}
 use Rattle.tables.proofs.Promise.{promise}
 use Rattle.bins.proofs.GateWalk.{shut-out, opened}
-use Rattle.asking.proofs.Walk.{report-answered}
+use Rattle.asking.proofs.Walk.{question-answered}
 use borrow.Author.Needs.{needs}
 use Rattle.asking.proofs.storage_report.Statement.{statement}
 use Rattle.asking.proofs.storage_report.Tie as tie
@@ -22,16 +22,16 @@ report-requires : tie.Need-report-requires
 report-requires c κs = search needs
 
 returns : tie.Need-returns
-returns c heads =
+returns c =
     let found = c .before in
-    promise edition32 Report _ (shut-out _ Report (found .before .before .test .ensures) (found .why .given .1))
+    promise edition32 (Ask Report) _ (shut-out _ (Ask Report) (found .before .before .test .ensures) (found .why .given .1))
 
 returns-2 : tie.Need-returns-2
-unfolding reportOf reportTop reportLeaf reportClass
-returns-2 c heads =
+unfolding toldBy reportOf reportTop reportLeaf reportClass
+returns-2 c =
     let told = c .before in
-    promise edition32 Report _
-    (report-answered _ (opened _ (told .before .before .test .ensures) (told .enum-told .given .1)) (c .report .ensures))
+    promise edition32 (Ask Report) _
+    (question-answered _ (opened _ (told .before .before .test .ensures) (told .enum-told .given .1)) Report (c .report .ensures))
 
 pub storage-report-spec : {M : Type 1} → statement M
 storage-report-spec =

@@ -1,11 +1,12 @@
 -- Shut out by the gate, or let in. Assumes nothing.
 use mathlib.Core.List.{[]}
-use Rattle.ledger.specs.Calls.{FullReport}
-use Rattle.tables.specs.Calls.{edition32}
+use Rattle.ledger.specs.Calls.{FullReport, Ask}
+use Rattle.tables.specs.Questions.{fullReportOf}
+use Rattle.tables.specs.Calls.{edition32, toldBy}
 use Rattle.tables.proofs.Promise.{promise}
 use Rattle.bins.specs.InWords.{wordsOf}
 use Rattle.bins.proofs.GateWalk.{shut-out, opened, has-room}
-use Rattle.asking.proofs.Walk.{answered-as, full-answered}
+use Rattle.asking.proofs.Walk.{answered-as, question-answered}
 use borrow.Author.Needs.{needs}
 use Rattle.asking.proofs.storage_report_full.Statement.{statement}
 use Rattle.asking.proofs.storage_report_full.Tie as tie
@@ -32,19 +33,19 @@ returns : tie.Need-returns
 returns c =
     let found = c .before .before in
     let tested = found .before .before in (
-      λ leaves.
-          promise edition32 FullReport _
-          (answered-as (c .refuse .ensures .0) (shut-out _ FullReport (tested .test .ensures) (found .why .given .1))),
+      promise edition32 (Ask FullReport) _
+          (answered-as (c .refuse .ensures .0) (shut-out _ (Ask FullReport) (tested .test .ensures) (found .why .given .1))),
       c .refuse .ensures .1,
     )
 
 returns-2 : tie.Need-returns-2
+unfolding toldBy fullReportOf
 returns-2 c =
     let told = c .before in
     let tested = told .before .before in (
-      λ leaves.
-          promise edition32 FullReport _
-          (full-answered _ (opened _ (tested .test .ensures) (told .enum-told .given .1)) (c .count .ensures .0 leaves _)),
+      promise edition32 (Ask FullReport) _
+          (question-answered _ (opened _ (tested .test .ensures) (told .enum-told .given .1)) FullReport
+          (c .count .ensures .0 (tested .before .before .before .args .used-bins .now) (tested .before .before .before .args .free-nodes .now))),
       c .count .ensures .1,
     )
 

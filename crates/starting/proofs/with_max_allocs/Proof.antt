@@ -1,7 +1,7 @@
 -- Shut out by the gate, or started afresh. Assumes nothing.
 use mathlib.Core.Path.{sym, ap, subst, _∙_}
 use native.Mathlib.Omega.{arith}
-use Prim.Native.Nat.{ℕ}
+use Prim.Native.Nat.{ℕ, _<_, _^_}
 use Rattle.tables.specs.Setup.{lentOf, fresh}
 use Rattle.tables.specs.Calls.{edition32}
 use Rattle.tables.proofs.Promise.{setup-promise}
@@ -30,7 +30,7 @@ start-afresh-requires c κs =
     let told = c .before .before .before .before in
     let tested = told .before .before in
     let a = tested .before .before .before .before .before .before .args in
-    let room = setup-room (a .size .0) (a .max-allocs)
+    let room = setup-room (a .max-allocs)
     (lentOf (a .bin-indices .now) (a .used-bins .now) (a .nodes .now) (a .free-nodes .now)) (tested .test .ensures) (told .enum-told .given .1) in
     (room .count-low, (room .nodes-room, room .pile-room))
 
@@ -45,8 +45,8 @@ returns c =
     let found = c .before .before .before .before in
     let tested = found .before .before in
     let measured = tested .before .before .before in
-    setup-promise edition32 _ _ _ (omega (arith, measured .units-of .ensures, measured .units-of .ok))
-    (c .leave-all .ensures _ _ ∙ setup-shut _ _ _ (tested .test .ensures) (found .why .given .1))
+    let fits : measured .before .before .before .args .size .0 < 2 ^ 32 = omega (arith, measured .units-of .ensures, measured .units-of .ok) in
+    setup-promise edition32 _ _ _ fits (c .leave-all .ensures _ _ ∙ setup-shut _ _ _ fits (tested .test .ensures) (found .why .given .1))
 
 same-length-3 : tie.Need-same-length-3
 same-length-3 c = search needs
@@ -61,8 +61,9 @@ returns-2 c =
     let tested = told .before .before in
     let measured = tested .before .before .before in
     let a = measured .before .before .before .args in
-    setup-promise edition32 (a .size .0) _ _ (omega (arith, measured .units-of .ensures, measured .units-of .ok))
-    (setup-open (a .size .0) _ _ (tested .test .ensures) (told .enum-told .given .1)
+    let fits : a .size .0 < 2 ^ 32 = omega (arith, measured .units-of .ensures, measured .units-of .ok) in
+    setup-promise edition32 (a .size .0) _ _ fits
+    (setup-open (a .size .0) _ _ fits (tested .test .ensures) (told .enum-told .given .1)
     (begun .start-afresh .ensures
     ∙ ap (λ (n : ℕ). fresh edition32 n (a .max-allocs) (a .nodes .now) (a .free-nodes .now)) (measured .units-of .ensures)))
 

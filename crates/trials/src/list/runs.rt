@@ -40,7 +40,11 @@ fn begin(forms: Forms) -> Replay {
         tally: Tally::new(),
         classes: 0,
         totals: zeros,
-        head: Head::of(zeros, used_bins, bin_indices),
+        head: Head {
+            totals: zeros,
+            bin_indices,
+            used_bins,
+        },
     }
 }
 

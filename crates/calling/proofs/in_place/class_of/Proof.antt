@@ -12,9 +12,9 @@ of-class-requires : tie.Need-of-class-requires
 of-class-requires c κs = search needs
 
 returns : tie.Need-returns
-returns c leaves =
+returns c =
     let given = c .before .before .before .before .args in
-    asked-so (classIn (given .class)) (c .of-class .ensures) (c .before .storage-report-full .ensures .0 leaves .exact)
+    asked-so (classIn (given .class)) (c .of-class .ensures) (c .before .storage-report-full .ensures .0 .exact)
 
 pub class-of-spec : {M : Type 1} → statement M
 class-of-spec = tie.close (tie.spec storage-report-full-requires of-class-requires returns)

@@ -12,7 +12,7 @@ of-classes-requires : tie.Need-of-classes-requires
 of-classes-requires c κs = search needs
 
 returns : tie.Need-returns
-returns c leaves = asked-so heldIn (c .of-classes .ensures) (c .before .storage-report-full .ensures .0 leaves .exact)
+returns c = asked-so heldIn (c .of-classes .ensures) (c .before .storage-report-full .ensures .0 .exact)
 
 pub classes-held-spec : {M : Type 1} → statement M
 classes-held-spec = tie.close (tie.spec storage-report-full-requires of-classes-requires returns)

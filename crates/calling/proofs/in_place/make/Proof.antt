@@ -113,9 +113,7 @@ same-length-10 : tie.Need-same-length-10
 same-length-10 c = search needs
 
 returns-5 : tie.Need-returns-5
-returns-5 c =
-    let given = c .before .before .before .before .before .before .before .before .args in
-    as-came inPlace _ (c .before .before .before .before .call4 .given .1) (c .size-of .ensures (given .bin-indices .now) (given .used-bins .now))
+returns-5 c = as-came inPlace _ (c .before .before .before .before .before .before .call4 .given .1) (c .size-of .ensures)
 
 same-length-11 : tie.Need-same-length-11
 same-length-11 c = search needs
@@ -124,9 +122,7 @@ same-length-12 : tie.Need-same-length-12
 same-length-12 c = search needs
 
 returns-6 : tie.Need-returns-6
-returns-6 c =
-    let given = c .before .before .before .before .before .before .before .before .args in
-    as-came inPlace _ (c .before .before .before .before .enum-told2 .given .1) (c .report .ensures (given .bin-indices .now))
+returns-6 c = as-came inPlace _ (c .before .before .before .before .before .enum-told2 .given .1) (c .report .ensures)
 
 same-length-13 : tie.Need-same-length-13
 same-length-13 c = search needs
@@ -135,9 +131,7 @@ same-length-14 : tie.Need-same-length-14
 same-length-14 c = search needs
 
 returns-7 : tie.Need-returns-7
-returns-7 c =
-    let given = c .before .before .before .before .before .before .before .before .before .args in
-    as-came inPlace _ (c .before .before .before .before .before .call5 .given .1) (c .class-of .ensures (given .used-bins .now))
+returns-7 c = as-came inPlace _ (c .before .before .before .before .before .before .call5 .given .1) (c .class-of .ensures)
 
 same-length-15 : tie.Need-same-length-15
 same-length-15 c = search needs
@@ -146,9 +140,7 @@ same-length-16 : tie.Need-same-length-16
 same-length-16 c = search needs
 
 returns-8 : tie.Need-returns-8
-returns-8 c =
-    let given = c .before .before .before .before .before .before .before .before .args in
-    as-came inPlace _ (c .before .before .before .before .enum-told3 .given .1) (c .classes-held .ensures (given .used-bins .now))
+returns-8 c = as-came inPlace _ (c .before .before .before .before .before .enum-told3 .given .1) (c .classes-held .ensures)
 
 returns-9 : tie.Need-returns-9
 returns-9 c = as-came inPlace _ (c .enum-told4 .given .1) refl

@@ -11,7 +11,7 @@ of-report-requires : tie.Need-of-report-requires
 of-report-requires c κs = search needs
 
 returns : tie.Need-returns
-returns c heads = told-so (c .of-report .ensures) (c .before .storage-report .ensures heads .exact)
+returns c = told-so (c .of-report .ensures) (c .before .storage-report .ensures .exact)
 
 pub report-spec : {M : Type 1} → statement M
 report-spec = tie.close (tie.spec storage-report-requires of-report-requires returns)

@@ -11,7 +11,7 @@ of-size-requires : tie.Need-of-size-requires
 of-size-requires c κs = search needs
 
 returns : tie.Need-returns
-returns c heads leaves = told-so (c .of-size .ensures) (c .before .allocation-size .ensures heads leaves .exact)
+returns c = told-so (c .of-size .ensures) (c .before .allocation-size .ensures .exact)
 
 pub size-of-spec : {M : Type 1} → statement M
 size-of-spec = tie.close (tie.spec allocation-size-requires of-size-requires returns)

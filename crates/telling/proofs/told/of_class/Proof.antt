@@ -7,11 +7,11 @@ use lib.ListN.{getD}
 use borrow.Author.Tests.{le-leb, lt-leb}
 use Rattle.answers.specs.declared.Refusal.{Refusal}
 use Rattle.answers.specs.Refusals.{numberOf}
-use Rattle.asking.specs.declared.FullOutcome.{FullOutcome}
-use Rattle.asking.specs.declared.FullOutcome.the-variants.{Counted, Refused}
+use Rattle.answers.specs.declared.FullOutcome.{FullOutcome}
+use Rattle.answers.specs.declared.FullOutcome.the-variants.{Counted, Refused}
 use Rattle.judging.specs.declared.answer.Answer.{Answer}
 use Rattle.judging.specs.declared.answer.Answer.the-variants as answer
-use Rattle.asking.specs.Answers.{columns, outcomeOf}
+use Rattle.answers.specs.Answers.{columns, outcomeSays}
 use Rattle.telling.specs.Told.{toldAs, classIn}
 use Rattle.telling.proofs.Columns.{at-column}
 use borrow.Author.Needs.{needs}
@@ -19,18 +19,18 @@ use Rattle.telling.proofs.told.of_class.Statement.{statement}
 use Rattle.telling.proofs.told.of_class.Tie as tie
 
 module _ (class : ℕ) (o : FullOutcome) (sizes counts : List ℕ) where
-  no-class : o ≡ Counted → 256 ≤ class → _≡_ {A = Answer} answer.Nothing (toldAs (classIn class) (outcomeOf o sizes counts))
+  no-class : o ≡ Counted → 256 ≤ class → _≡_ {A = Answer} answer.Nothing (toldAs (classIn class) (outcomeSays o sizes counts))
   no-class told beyond = rw (told, le-leb 256 class beyond)
 
   a-class : o ≡ Counted → class < 256
-      → _≡_ {A = Answer} (answer.Regions (getD sizes class 0) (getD counts class 0)) (toldAs (classIn class) (outcomeOf o sizes counts))
+      → _≡_ {A = Answer} (answer.Regions (getD sizes class 0) (getD counts class 0)) (toldAs (classIn class) (outcomeSays o sizes counts))
   a-class told below =
       let f : ℕ → ℕ × ℕ = λ c. (getD sizes c 0, getD counts c 0) in
       let here : getD (columns sizes counts) class (0, 0) ≡ f class = at-column f class 256 0 below ∙ ap f (zero-add class) in
       rw (told, lt-leb 256 class below) (ap (λ (p : ℕ × ℕ). answer.Regions (p .0) (p .1)) (sym here))
 
   no-report : (why : Refusal) (n : ℕ) → o ≡ Refused why → n ≡ numberOf why
-      → _≡_ {A = Answer} (answer.Refused n) (toldAs (classIn class) (outcomeOf o sizes counts))
+      → _≡_ {A = Answer} (answer.Refused n) (toldAs (classIn class) (outcomeSays o sizes counts))
   no-report why n told is = rw (told, is)
 
 enum-told : tie.Need-enum-told

@@ -2,9 +2,9 @@
 use Prim.Native.Nat.{ℕ}
 use mathlib.Core.Path.{_≡_}
 use mathlib.Core.List.{List}
-use Rattle.asking.specs.Answers.{columns, outcomeOf}
-use Rattle.asking.specs.declared.FullOutcome.{FullOutcome}
-use Rattle.asking.specs.declared.FullOutcome.the-variants.{Counted}
+use Rattle.answers.specs.Answers.{columns, outcomeSays}
+use Rattle.answers.specs.declared.FullOutcome.{FullOutcome}
+use Rattle.answers.specs.declared.FullOutcome.the-variants.{Counted}
 use Rattle.judging.specs.declared.answer.Answer.{Answer}
 use Rattle.judging.specs.declared.answer.Answer.the-variants as answer
 use Rattle.telling.specs.Told.{toldAs, heldIn, classesHeld}
@@ -13,7 +13,7 @@ use Rattle.telling.proofs.told.of_classes.Statement.{statement}
 use Rattle.telling.proofs.told.of_classes.Tie as tie
 
 counted : (o : FullOutcome) (sizes counts : List ℕ) (n : ℕ) → o ≡ Counted → n ≡ classesHeld (columns sizes counts)
-    → _≡_ {A = Answer} (answer.Held n) (toldAs heldIn (outcomeOf o sizes counts))
+    → _≡_ {A = Answer} (answer.Held n) (toldAs heldIn (outcomeSays o sizes counts))
 counted o sizes counts n told is = rw (told, is)
 
 enum-told : tie.Need-enum-told

@@ -1,0 +1,2 @@
+-- Told: the number that tells what a search found.
+pub mod Told

@@ -1,0 +1,56 @@
+-- A shift of 1 is a power of two, so the code sets just the two bits. Assumes nothing.
+use Prim.Native.Nat.{ℕ, _*_, _/_, _%_, _^_, _<_}
+use mathlib.Core.Path.{_≡_, refl, _∙_}
+use native.Mathlib.Nat.{one-mul}
+use lib.Pow.{shl-exact}
+use borrow.Author.Tests.{lt-ltb, le-ltb}
+use native.Mathlib.Omega.{arith}
+use borrow.Author.Needs.{needs}
+use Rattle.bitmap.proofs.bits.mark.Statement.{statement}
+use Rattle.bitmap.proofs.bits.mark.Tie as tie
+
+-- 1 << k at a width of n bits
+shl-one : (n k : ℕ) → k < n → (1 * 2 ^ k) % 2 ^ n ≡ 2 ^ k
+shl-one n k h = shl-exact {a = 1} 1 k n (omega arith) (omega arith) ∙ one-mul (2 ^ k)
+
+returns : tie.Need-returns
+returns c = simp (lt-ltb _ _ (c .if1 .taken)) (record { top-is = refl; leaves-are = refl })
+
+cast-i : tie.Need-cast-i
+cast-i c = search needs
+
+element-copy-out-used-bins : tie.Need-element-copy-out-used-bins
+element-copy-out-used-bins c = search needs
+
+cast-used-bins : tie.Need-cast-used-bins
+cast-used-bins c = search needs
+
+shl-used-bins : tie.Need-shl-used-bins
+shl-used-bins c = search needs
+
+element-write-used-bins : tie.Need-element-write-used-bins
+element-write-used-bins c = search needs
+
+shl-result : tie.Need-shl-result
+shl-result c = search needs
+
+returns-2 : tie.Need-returns-2
+returns-2 c =
+    let k = c .before .before .args .c in
+    let h : k / 8 < 32 = omega arith in
+    let g : k % 8 < 8 = omega arith in
+    simp (le-ltb _ _ (c .before .if1 .left), shl-one 32 (k / 8) h, shl-one 8 (k % 8) g)
+    (record { top-is = refl; leaves-are = refl })
+
+pub mark-spec : {M : Type 1} → statement M
+mark-spec =
+    tie.close
+    (tie.spec
+    returns
+    cast-i
+    element-copy-out-used-bins
+    cast-used-bins
+    shl-used-bins
+    element-write-used-bins
+    shl-result
+    returns-2)

@@ -1,0 +1,77 @@
+-- A promise fixes answer and words, and these fix the values of the code. Assumes nothing.
+use mathlib.Core.Path.{_≡_, sym, ap, _∙_}
+use mathlib.Core.List.{List}
+use Prim.Native.Nat.{ℕ}
+use Rattle.ledger.specs.Ledger.{Answer}
+use Rattle.ledger.specs.Calls.{Call}
+use Rattle.tables.specs.Words.{Words}
+use Rattle.tables.specs.Calls.{edition32}
+use Rattle.tables.specs.Promise.{Promise}
+use Rattle.tables.proofs.Promise.{one-outcome, one-setup}
+use Rattle.answers.proofs.OneValue.{one-value}
+use Rattle.bins.specs.declared.totals.Totals.{Totals}
+use Rattle.bins.specs.InWords.{wordsOf}
+use Rattle.offset_allocator.specs.OneResult.{InPlace, ByValue, Form, in-place, by-value, OneResult}
+
+-- ---- words fix what they are made of
+module _ (t u : Totals) (hs ls ns ps gs ks ms qs : List ℕ) (e : wordsOf t hs ls ns ps ≡ wordsOf u gs ks ms qs) where
+  same-totals : t ≡ u
+  same-totals = λ i. record {
+    size = e i .size;
+    «max_allocs» = e i .count;
+    «free_storage» = e i .total;
+    «free_offset» = e i .off;
+    «used_bins_top» = e i .top;
+  }
+
+placed : (v u : InPlace) → in-place .words v ≡ in-place .words u → v ≡ u
+placed v u e = λ i. record {
+  totals = same-totals (v .totals) (u .totals) (v .heads) (v .leaves) (v .nodes) (v .pile) (u .heads) (u .leaves) (u .nodes) (u .pile) e i;
+  heads = e i .heads;
+  leaves = e i .leaves;
+  nodes = e i .nodes;
+  pile = e i .pile;
+}
+
+valued : (v u : ByValue) → by-value .words v ≡ by-value .words u → v ≡ u
+valued v u e = λ i. record {
+  head = record {
+    totals = same-totals (v .head .totals) (u .head .totals) (v .head .«bin_indices») (v .head .«used_bins») (v .nodes) (v .pile)
+        (u .head .«bin_indices») (u .head .«used_bins») (u .nodes) (u .pile) e i;
+    «bin_indices» = e i .heads;
+    «used_bins» = e i .leaves;
+  };
+  nodes = e i .nodes;
+  pile = e i .pile;
+}
+
+-- ---- promises
+answers-same : {w v u : Words} {c : Call} {a b : Answer} → Promise edition32 c w v a → Promise edition32 c w u b → a ≡ b
+answers-same {w} {c = c} p q = ap (λ (x : Answer × Words). x .0) (one-outcome edition32 c w p q)
+
+words-same : {w v u : Words} {c : Call} {a b : Answer} → Promise edition32 c w v a → Promise edition32 c w u b → v ≡ u
+words-same {w} {c = c} p q = ap (λ (x : Answer × Words). x .1) (one-outcome edition32 c w p q)
+
+-- in any form whose words fix what it leaves
+one-result-in : (F : Form) → ((v u : F .Left) → F .words v ≡ F .words u → v ≡ u) → OneResult F
+one-result-in F fixed = record {
+  of-setup = λ size count lent a b v u p q. (
+    one-value .of-start a b (ap (λ (x : Answer × Words). x .0) (one-setup edition32 size count lent p q)),
+    fixed v u (ap (λ (x : Answer × Words). x .1) (one-setup edition32 size count lent p q)),
+  );
+  of-reset = λ c w a b v u p q. (one-value .of-start a b (answers-same p q), fixed v u (words-same p q));
+  of-take = λ c w a b v u p q. (one-value .of-take a b (answers-same p q), fixed v u (words-same p q));
+  of-back = λ c w a b v u p q. (one-value .of-back a b (answers-same p q), fixed v u (words-same p q));
+  of-size = λ q w a b p r. one-value .of-size a b (answers-same p r);
+  of-report = λ q w a b p r. one-value .of-report a b (answers-same p r);
+  of-audit = λ w scratch left other a b p q. (
+    one-value .of-audit a b (ap (λ (x : Answer × List ℕ). x .0) (p .exact ∙ sym (q .exact))),
+    ap (λ (x : Answer × List ℕ). x .1) (p .exact ∙ sym (q .exact)),
+  );
+}
+
+pub one-result-in-place : OneResult in-place
+one-result-in-place = one-result-in in-place placed
+
+pub one-result-by-value : OneResult by-value
+one-result-by-value = one-result-in by-value valued
