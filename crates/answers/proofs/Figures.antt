@@ -1,6 +1,5 @@
 -- The figures of a refused full report are 0. Assumes nothing.
 use mathlib.Core.Path.{_≡_, refl, subst, ap₂, _∙_}
-use Prim.Native.Nat.{ℕ}
 use lib.ListN.{replicate}
 use Rattle.ledger.specs.Ledger.{numbersFrom}
 use Rattle.answers.specs.declared.Refusal.{Refusal}

@@ -1,8 +1,13 @@
 -- An answer of the code is given by what it says. Assumes nothing.
-use mathlib.Core.Path.{_≡_, refl, ap}
-use Prim.Native.Nat.{ℕ}
+use mathlib.Core.Path.{_≡_, refl, sym, ap, _∙_}
+use mathlib.Core.List.{List, map}
+use Prim.Native.Nat.{ℕ, zero, suc, _+_, _≤_, _<_}
+use native.Mathlib.Omega.{arith}
+use lib.ListN.{length, getD}
+use Rattle.basics.proofs.Decided.{Same, same, differ, same?}
+use Rattle.basics.proofs.Lists.{same-below}
 use Rattle.basics.proofs.Clash.{clash}
-use Rattle.ledger.specs.Ledger.{Answer, granted, done, length-is, reported, refused}
+use Rattle.ledger.specs.Ledger.{classes, refused, numbersFrom}
 use Rattle.answers.specs.declared.Refusal.{Refusal}
 use Rattle.answers.specs.declared.StartAnswer.{StartAnswer}
 use Rattle.answers.specs.declared.StartAnswer.the-variants as start
@@ -14,10 +19,13 @@ use Rattle.answers.specs.declared.SizeAnswer.{SizeAnswer}
 use Rattle.answers.specs.declared.SizeAnswer.the-variants as size
 use Rattle.answers.specs.declared.ReportAnswer.{ReportAnswer}
 use Rattle.answers.specs.declared.ReportAnswer.the-variants as report
+use Rattle.answers.specs.declared.FullOutcome.{FullOutcome}
+use Rattle.answers.specs.declared.FullOutcome.the-variants as full
+use Rattle.answers.specs.declared.FullAnswer.{FullAnswer}
 use Rattle.answers.specs.declared.AuditAnswer.{AuditAnswer}
 use Rattle.answers.specs.declared.AuditAnswer.the-variants as audit
 use Rattle.answers.specs.Refusals.{numberOf}
-use Rattle.answers.specs.Answers.{startSays, takeSays, backSays, sizeSays, reportSays, auditSays}
+use Rattle.answers.specs.Answers.{startSays, takeSays, backSays, sizeSays, reportSays, columns, outcomeSays, fullSays, AllPlaces, ZeroIfRefused, FiguresOfZero, auditSays}
 use Rattle.answers.specs.OneValue.{OneValue}
 use Rattle.answers.proofs.Numbers.{number-means}
 
@@ -67,6 +75,48 @@ of-audit audit.Sound (audit.Refused why) e = clash (cc)
 of-audit (audit.Refused why) audit.Sound e = clash (cc)
 of-audit (audit.Refused why) (audit.Refused other) e = ap audit.Refused (same-refusal why other e)
 
+-- ---- the full report: columns that say the same, of 256 places each, are the same
+rows-same : (f g : ℕ → ℕ × ℕ) (n r : ℕ) → map f (numbersFrom r n) ≡ map g (numbersFrom r n) → (c : ℕ) → r ≤ c → c < r + n → f c ≡ g c
+unfolding numbersFrom
+rows-same f g zero r e c low high = absurd (omega arith)
+rows-same f g (suc n) r e c low high = go (same? c r) (rows-same f g n (suc r) (cc) c)
+  where
+    go : Same c r → (suc r ≤ c → c < suc r + n → f c ≡ g c) → f c ≡ g c
+    go (same p q) later = let first : f r ≡ g r = cc in ap f p ∙ first ∙ sym (ap g p)
+    go (differ p q) later = later (omega arith) (omega arith)
+
+of-columns : (sizes counts others numbers : List ℕ) → length sizes ≡ 256 → length counts ≡ 256 → length others ≡ 256 → length numbers ≡ 256
+    → classes (columns sizes counts) ≡ classes (columns others numbers) → (sizes ≡ others) × (counts ≡ numbers)
+of-columns sizes counts others numbers a b c d e = (
+  same-below sizes others (a ∙ sym c) (λ i l. ap (λ (x : ℕ × ℕ). x .0) (row i (omega (arith, a, l)))),
+  same-below counts numbers (b ∙ sym d) (λ i l. ap (λ (x : ℕ × ℕ). x .1) (row i (omega (arith, b, l)))),
+)
+  where
+    all-rows : columns sizes counts ≡ columns others numbers
+    all-rows = cc
+
+    row : (i : ℕ) → i < 256 → _≡_ {A = ℕ × ℕ} (getD sizes i 0, getD counts i 0) (getD others i 0, getD numbers i 0)
+    row i l =
+        rows-same (λ (c : ℕ). (getD sizes c 0, getD counts c 0)) (λ (c : ℕ). (getD others c 0, getD numbers c 0)) 256 0 all-rows i
+        (omega arith) (omega arith)
+
+full-parts : (o p : FullOutcome) (sizes counts others numbers : List ℕ)
+    → (length sizes ≡ 256) × (length counts ≡ 256) → (length others ≡ 256) × (length numbers ≡ 256)
+    → ZeroIfRefused o sizes counts → ZeroIfRefused p others numbers → outcomeSays o sizes counts ≡ outcomeSays p others numbers
+    → (o ≡ p) × (sizes ≡ others) × (counts ≡ numbers)
+full-parts full.Counted full.Counted sizes counts others numbers a b z y e =
+    let both = of-columns sizes counts others numbers (a .0) (a .1) (b .0) (b .1) e in
+    (refl, both .0, both .1)
+full-parts full.Counted (full.Refused why) sizes counts others numbers a b z y e = clash (cc)
+full-parts (full.Refused why) full.Counted sizes counts others numbers a b z y e = clash (cc)
+full-parts (full.Refused why) (full.Refused other) sizes counts others numbers a b z y e =
+    (ap full.Refused (same-refusal why other e), z .0 ∙ sym (y .0), z .1 ∙ sym (y .1))
+
+of-full : (a b : FullAnswer) → AllPlaces a → AllPlaces b → FiguresOfZero a → FiguresOfZero b → fullSays a ≡ fullSays b → a ≡ b
+of-full a b p q z y e =
+    let same-parts = full-parts (a .outcome) (b .outcome) (a .sizes) (a .counts) (b .sizes) (b .counts) p q z y e in
+    λ i. record { outcome = same-parts .0 i; sizes = same-parts .1 i; counts = same-parts .2 i }
+
 pub one-value : OneValue
 one-value = record {
   of-start = of-start;
@@ -75,4 +125,5 @@ one-value = record {
   of-size = of-size;
   of-report = of-report;
   of-audit = of-audit;
+  of-full = of-full;
 }

@@ -2,7 +2,7 @@
 use mathlib.Core.Path.{_≡_}
 use mathlib.Core.List.{List, map}
 use Prim.Native.Nat.{ℕ}
-use lib.ListN.{getD, replicate}
+use lib.ListN.{length, getD, replicate}
 use Rattle.ledger.specs.Ledger.{Answer, granted, done, length-is, reported, classes, refused, numbersFrom}
 use Rattle.answers.specs.declared.Refusal.{Refusal}
 use Rattle.answers.specs.declared.StartAnswer.{StartAnswer}
@@ -52,6 +52,10 @@ outcomeSays (full.Refused why) sizes counts = refused (numberOf why)
 
 abbrev pub fullSays : FullAnswer → Answer
 fullSays a = outcomeSays (a .outcome) (a .sizes) (a .counts)
+
+-- each column has a place for every class
+abbrev pub AllPlaces : FullAnswer → Type 0
+AllPlaces a = (length (a .sizes) ≡ 256) × (length (a .counts) ≡ 256)
 
 -- "Every refusal returns its number, figures of 0": the figures of a refused full report
 abbrev pub ZeroIfRefused : FullOutcome → (sizes counts : List ℕ) → Type 0

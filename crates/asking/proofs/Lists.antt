@@ -33,7 +33,7 @@ module _ (nodes : List ℕ) (count a n : ℕ) where
 -- ---- all lists: at class c
 module _ (w : Words) (c : ℕ) (so-far : List ℕ) where
   abbrev this-list : Walked
-  this-list = listLength (w .count) (w .nodes) (w .count) (getD (w .heads) c 0) 0
+  this-list = listLength (w .count) (w .nodes) (w .count) (getD (w .binIndices) c 0) 0
 
   pub count-goes-on : {n : ℕ} → c < 256 → this-list ≡ steps n
       → countFrom (256 - c) w c so-far ≡ countFrom (256 - (c + 1)) w (c + 1) (set so-far c n)

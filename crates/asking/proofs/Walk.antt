@@ -1,7 +1,7 @@
 -- What a question answers behind an open gate is the model's answer, and every word stays. Assumes nothing.
 use mathlib.Core.Path.{_≡_, sym, ap, _∙_}
 use Rattle.ledger.specs.Ledger.{Answer}
-use Rattle.ledger.specs.Calls.{Question, Ask}
+use Rattle.ledger.specs.Calls.{Question}
 use Rattle.tables.specs.Words.{Words}
 use Rattle.tables.specs.Gate.{gateOf}
 use Rattle.tables.specs.Calls.{edition32, toldBy, behind, answerWords}

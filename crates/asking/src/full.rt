@@ -3,13 +3,13 @@
 ghost use mathlib.Core.Path.{_≡_};
 ghost use Prim.Native.Nat.{ℕ, _<_};
 ghost use mathlib.Core.List.{List};
-ghost use lib.ListN.{getD, replicate};
+ghost use lib.ListN.{length, getD, replicate};
 ghost use Rattle.small_float.specs.Class.{shownValue};
 ghost use Rattle.ledger.specs.Ledger.{refused};
 ghost use Rattle.tables.specs.Questions.{listLength, countFrom, fullAnswer};
 ghost use Rattle.answers.specs.Refusals.{numberOf};
 ghost use Rattle.bins.specs.InWords.{wordsOf, HasRoom};
-ghost use Rattle.answers.specs.Answers.{fullSays, FiguresOfZero};
+ghost use Rattle.answers.specs.Answers.{fullSays, FiguresOfZero, AllPlaces};
 ghost use Rattle.asking.specs.Answers.{walkedOf};
 use answers::FullAnswer;
 use answers::FullOutcome;
@@ -26,7 +26,7 @@ pub enum Walked {
 
 // A refusal's figures are 0.
 pub fn refuse(why: Refusal) -> FullAnswer
-    ensures { λ a. ⌜ (fullSays a ≡ refused (numberOf why)) × FiguresOfZero a ⌝ }
+    ensures { λ a. ⌜ (fullSays a ≡ refused (numberOf why)) × FiguresOfZero a × AllPlaces a ⌝ }
 {
     FullAnswer {
         outcome: FullOutcome::Refused(why),
@@ -37,7 +37,7 @@ pub fn refuse(why: Refusal) -> FullAnswer
 
 // The value of each class, 0 from class 240 on; 64 bits wide, which holds what a Size does not.
 fn class_sizes() -> [u64; 256]
-    ensures { λ r. ⌜ ((c : ℕ) → c < 256 → getD r c 0 ≡ shownValue c) ⌝ }
+    ensures { λ r. ⌜ (length r ≡ 256) × ((c : ℕ) → c < 256 → getD r c 0 ≡ shownValue c) ⌝ }
 {
     let mut sizes = [0u64; 256];
     let mut c: u32 = 0;
@@ -73,6 +73,7 @@ pub fn count(t: Totals, bin_indices: &[u32; 256], nodes: &[u32]) -> FullAnswer
     ensures exact { λ a. ⌜ ((leaves pile : List ℕ) → fullSays a
         ≡ fullAnswer (countFrom 256 (wordsOf t (now («bin_indices» .entry)) leaves (now (nodes .entry)) pile) 0 (replicate 256 0))) ⌝ }
     ensures figures { λ a. ⌜ FiguresOfZero a ⌝ }
+    ensures places { λ a. ⌜ AllPlaces a ⌝ }
 {
     let sizes = class_sizes();
     let mut counts = [0u32; 256];

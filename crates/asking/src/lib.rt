@@ -4,7 +4,7 @@
 ghost use Rattle.ledger.specs.Calls.{SizeOf, Report, FullReport};
 ghost use Rattle.answers.specs.Asked.{tokenOf};
 ghost use Rattle.bins.specs.InWords.{wordsOf};
-ghost use Rattle.answers.specs.Answers.{sizeSays, reportSays, fullSays, FiguresOfZero};
+ghost use Rattle.answers.specs.Answers.{sizeSays, reportSays, fullSays, FiguresOfZero, AllPlaces};
 ghost use Rattle.asking.specs.Answers.{Asked};
 use answers::FullAnswer;
 use answers::Handle;
@@ -70,6 +70,7 @@ pub fn storage_report_full(
     ensures exact { λ a. ⌜ Asked (fullSays a) FullReport
         (wordsOf t (now («bin_indices» .entry)) (now («used_bins» .entry)) (now (nodes .entry)) (now («free_nodes» .entry))) ⌝ }
     ensures figures { λ a. ⌜ FiguresOfZero a ⌝ }
+    ensures places { λ a. ⌜ AllPlaces a ⌝ }
 {
     match bins::gate::test(t.max_allocs, nodes, free_nodes, Refusal::Unsound) {
         Gate::Shut(why) => full::refuse(why),

@@ -4,9 +4,8 @@ use mathlib.Core.Path.{_≡_}
 use mathlib.Core.Bool.{Bool, cond}
 use mathlib.Core.List.{List}
 use lib.Dec.{eqb, ltb}
-use lib.ListN.{length, take, set, replicate}
+use lib.ListN.{length, take, replicate}
 use Rattle.ledger.specs.Ledger as ledger
-use Rattle.tables.specs.Words.{Words}
 use Rattle.tables.specs.Calls.{edition32}
 use Rattle.bins.specs.InWords.{wordsOf}
 use Rattle.bins.specs.declared.totals.Totals.{Totals}

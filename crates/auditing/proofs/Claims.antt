@@ -3,13 +3,13 @@ use mathlib.Core.Path.{_≡_, refl, ap, sym, _∙_}
 use mathlib.Core.Logic.{_↔_, _⊎_, inl, inr}
 use mathlib.Core.Bool.{Bool, true, false}
 use mathlib.Core.List.{List, [], _∷_}
-use Prim.Native.Nat.{ℕ, zero, suc, _^_, _≤_, _<_}
+use Prim.Native.Nat.{ℕ, _≤_, _<_}
 use native.Mathlib.Omega.{arith}
 use lib.ListN.{length, getD}
 use Rattle.basics.proofs.Decided.{Below, below, beyond, below?}
 use Rattle.basics.proofs.Clash.{clash}
 use Rattle.ledger.specs.Ledger.{Ledger, Answer, done, refused, setup, by-class, Stacks}
-use Rattle.ledger.specs.Calls.{Call, SizeOf, Report, FullReport, end}
+use Rattle.ledger.specs.Calls.{Call, end}
 use Rattle.ledger.proofs.Records.{all-records}
 use Rattle.ledger.proofs.CallsWell.{setup-well, call-well}
 use Rattle.ledger.proofs.ByClass.{class-laws}

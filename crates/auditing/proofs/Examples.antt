@@ -66,11 +66,11 @@ one-live : ℕ → Words
 one-live link = record {
   size = 5;
   count = 2;
-  total = 0;
-  off = 0;
-  top = 0;
-  leaves = replicate 32 0;
-  heads = replicate 256 4294967295;
+  freeStorage = 0;
+  freeOffset = 0;
+  usedBinsTop = 0;
+  usedBins = replicate 32 0;
+  binIndices = replicate 256 4294967295;
   nodes = replicate 8 0 ++ (0 ∷ 5 ∷ 4294967295 ∷ 4294967295 ∷ link ∷ 4294967295 ∷ 1 ∷ 0 ∷ []);
   pile = replicate 2 0;
 }
@@ -94,11 +94,11 @@ unfolding fresh
 no-top-bit = record {
   size = fresh .size;
   count = fresh .count;
-  total = fresh .total;
-  off = fresh .off;
-  top = 0;
-  leaves = fresh .leaves;
-  heads = fresh .heads;
+  freeStorage = fresh .freeStorage;
+  freeOffset = fresh .freeOffset;
+  usedBinsTop = 0;
+  usedBins = fresh .usedBins;
+  binIndices = fresh .binIndices;
   nodes = fresh .nodes;
   pile = fresh .pile;
 }

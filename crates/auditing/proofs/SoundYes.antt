@@ -41,7 +41,7 @@ module _ (E : Edition) (w : Words) (l : Ledger Stacks) (S : Sound E w l) where
   small = count-none E w l S
 
   -- ---- the pile
-  spares-are : stackOf (w .pile) (w .off + 1) ≡ l .pile
+  spares-are : stackOf (w .pile) (w .freeOffset + 1) ≡ l .pile
   spares-are = ap (stackOf (w .pile)) (S .spare .spares) ∙ S .spare .piled
 
   pile-in-order : InOrder (w .nodes) (w .pile) (w .count) (l .pile)
@@ -51,7 +51,7 @@ module _ (E : Edition) (w : Words) (l : Ledger Stacks) (S : Sound E w l) where
     distinct = λ q. omega (arith, S .well .lined .once q, one-most (ltb q (w .count)));
   }
 
-  room : w .off + 1 < w .count
+  room : w .freeOffset + 1 < w .count
   room = omega (arith, S .spare .spares, all-records (S .well .lined), S .well .lined .some-region)
 
   -- ---- the records of the line
@@ -84,7 +84,7 @@ module _ (E : Edition) (w : Words) (l : Ledger Stacks) (S : Sound E w l) where
           }
 
   -- ---- behind a pile that is marked
-  module _ (marks : List ℕ) (M : MarkedUpTo (w .nodes) (w .pile) (w .count) (w .off + 1) marks) where
+  module _ (marks : List ℕ) (M : MarkedUpTo (w .nodes) (w .pile) (w .count) (w .freeOffset + 1) marks) where
     spare-count : (q : ℕ) → q < w .count → getD marks q 0 ≡ tally (is q) (l .pile)
     spare-count q h = M .counts q h ∙ ap (tally (is q)) spares-are
 
@@ -135,17 +135,17 @@ module _ (E : Edition) (w : Words) (l : Ledger Stacks) (S : Sound E w l) where
     met = rw found-start (walk-meets E (w .nodes) marks (w .count) (w .size) small (w .count) (started E start) (l .line)
         (omega (arith, all-records (S .well .lined))) (omega (arith, S .well .lined .cover)) line-stands)
 
-    chain-ends : walkEnds E (w .size) (w .count) (w .total) (w .off + 1) (chainWalk E w marks) ≡ true
+    chain-ends : walkEnds E (w .size) (w .count) (w .freeStorage) (w .freeOffset + 1) (chainWalk E w marks) ≡ true
     unfolding walkEnds
     chain-ends =
         let at-size : chainWalk E w marks .offset ≡ w .size = omega (arith, met .offset-is, S .well .lined .cover) in
-        let counted : chainWalk E w marks .records + (w .off + 1) ≡ w .count =
+        let counted : chainWalk E w marks .records + (w .freeOffset + 1) ≡ w .count =
         omega (arith, met .records-is, all-records (S .well .lined), S .spare .spares) in
-        let total-is : chainWalk E w marks .total ≡ w .total = omega (arith, met .total-is, S .total) in
+        let total-is : chainWalk E w marks .total ≡ w .freeStorage = omega (arith, met .total-is, S .total) in
         rw (eq-eqb _ _ (met .ends), eq-eqb _ _ at-size, eq-eqb _ _ counted, eq-eqb _ _ total-is)
 
     -- ---- the lists
-    lists-stand : Lists E (w .nodes) marks (w .count) small (w .heads) 256 (l .index)
+    lists-stand : Lists E (w .nodes) marks (w .count) small (w .binIndices) 256 (l .index)
     lists-stand c low = record {
       links = S .lists .lists c;
       start = sym (S .lists .tops c low);
@@ -171,15 +171,15 @@ module _ (E : Edition) (w : Words) (l : Ledger Stacks) (S : Sound E w l) where
     unfolding recordsAreSound endIsSound sumBelow
     records-sound = rw (
       chain-ends,
-      lists-end E (w .nodes) marks (w .count) small (w .heads) (chainWalk E w marks .frees) (l .index) lists-stand free-regions 256 0 0 refl refl,
-    ) (bits-agree E (w .heads) (w .leaves) (w .top) (l .index)
+      lists-end E (w .nodes) marks (w .count) small (w .binIndices) (chainWalk E w marks .frees) (l .index) lists-stand free-regions 256 0 0 refl refl,
+    ) (bits-agree E (w .binIndices) (w .usedBins) (w .usedBinsTop) (l .index)
         (λ c q low m. in-some (bounds E w) w (l .index) (l .pile) (shelf-of E w l S) c q m) (S .lists .tops)
         record { leaves-room = S .room .of-head .leaves-room; leaf-bits = S .bits .leaf-bits; top-bits = S .bits .top-bits })
 
   pub sound-yes : (clear : List ℕ) → MarkedUpTo (w .nodes) (w .pile) (w .count) 0 clear → wordsAreSound E w clear ≡ true
   unfolding wordsAreSound pileIsSound
   sound-yes clear m =
-      let upto : 0 + (w .off + 1) ≡ w .off + 1 = zero-add (w .off + 1) in
-      let fine = all-marked (w .nodes) (w .pile) (w .count) (w .off + 1) 0 clear m (rw (upto, spares-are) pile-in-order) in
-      let marked = rw upto at (marked-all (w .nodes) (w .pile) (w .count) (w .off + 1) 0 clear m fine) in
+      let upto : 0 + (w .freeOffset + 1) ≡ w .freeOffset + 1 = zero-add (w .freeOffset + 1) in
+      let fine = all-marked (w .nodes) (w .pile) (w .count) (w .freeOffset + 1) 0 clear m (rw (upto, spares-are) pile-in-order) in
+      let marked = rw upto at (marked-all (w .nodes) (w .pile) (w .count) (w .freeOffset + 1) 0 clear m fine) in
       rw (lt-ltb _ _ room, fine) (records-sound _ marked)

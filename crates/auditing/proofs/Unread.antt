@@ -5,8 +5,7 @@ use mathlib.Core.Bool.{Bool, true, false, _&&_, cond}
 use mathlib.Core.List.{List}
 use Prim.Native.Nat.{ℕ, zero, suc, _+_, _-_, _≤_, _<_}
 use native.Mathlib.Omega.{arith}
-use lib.Dec.{ltb, eqb}
-use lib.ListN.{length, getD, set}
+use lib.ListN.{getD, set}
 use Rattle.basics.proofs.Decided.{below, beyond, below?}
 use Rattle.tables.specs.Layout.{dataOffset, dataSize, binPrev, binNext, neighborPrev, neighborNext, used, word, nodesNeeded, pileNeeded}
 use Rattle.tables.specs.Words.{Words, Edition, withTables}
@@ -147,8 +146,8 @@ module _ (E : Edition) (w : Words) (nodes pile : List ℕ) (N : AgreeOn (nodesNe
   end-same : (p q : List ℕ) → AgreeOn (w .count) p q → (end : Walk) → endIsSound E w p end ≡ endIsSound E (withTables w nodes pile) q end
   unfolding endIsSound
   end-same p q M end =
-      ap (λ (t : Bool). walkEnds E (w .size) (w .count) (w .total) (w .off + 1) end && t && bitsAgree E (w .heads) (w .leaves) (w .top))
-      (lists-same (w .count) (w .nodes) nodes N E p q M (w .heads) (end .frees) 256 0 0)
+      ap (λ (t : Bool). walkEnds E (w .size) (w .count) (w .freeStorage) (w .freeOffset + 1) end && t && bitsAgree E (w .binIndices) (w .usedBins) (w .usedBinsTop))
+      (lists-same (w .count) (w .nodes) nodes N E p q M (w .binIndices) (end .frees) 256 0 0)
 
   records-same : (p q : List ℕ) → AgreeOn (w .count) p q → recordsAreSound E w p ≡ recordsAreSound E (withTables w nodes pile) q
   unfolding recordsAreSound
@@ -157,9 +156,9 @@ module _ (E : Edition) (w : Words) (nodes pile : List ℕ) (N : AgreeOn (nodesNe
 
   pub tests-same : (p q : List ℕ) → AgreeOn (w .count) p q → wordsAreSound E w p ≡ wordsAreSound E (withTables w nodes pile) q
   unfolding wordsAreSound pileIsSound
-  tests-same p q M = elim (below? (w .off + 1) (w .count)) [
+  tests-same p q M = elim (below? (w .freeOffset + 1) (w .count)) [
     | below l e ↦
-        let marked = marks-same (w .count) (w .nodes) nodes N (w .pile) pile P (w .off + 1) 0 p q M (omega arith) in
+        let marked = marks-same (w .count) (w .nodes) nodes N (w .pile) pile P (w .freeOffset + 1) 0 p q M (omega arith) in
         rw (marked .0, records-same _ _ (marked .1)) refl
     | beyond l e ↦ rw e refl
   ]

@@ -9,7 +9,7 @@ use Rattle.ledger.specs.Ledger.{Answer, refused}
 use Rattle.tables.specs.Words.{Words, Edition}
 use Rattle.tables.specs.Gate.{gate, gateOf, gated}
 use Rattle.tables.specs.Calls.{edition32}
-use Rattle.tables.proofs.Gate.{gated-open, gated-shut}
+use Rattle.tables.proofs.Gate.{gated-shut}
 use Rattle.answers.specs.declared.Refusal.{Refusal}
 use Rattle.answers.specs.Refusals.{numberOf}
 use Rattle.answers.proofs.Numbers.{above-0}
@@ -36,34 +36,34 @@ module _ (E : Edition) (w : Words) (marks : List ℕ) (end : Walk) (walked : end
   unfolding recordsAreSound
   by-end = ap (endIsSound E w marks) (sym walked)
 
-  pub chain-refused : walkEnds E (w .size) (w .count) (w .total) (w .off + 1) end ≡ false → recordsAreSound E w marks ≡ false
+  pub chain-refused : walkEnds E (w .size) (w .count) (w .freeStorage) (w .freeOffset + 1) end ≡ false → recordsAreSound E w marks ≡ false
   unfolding endIsSound
   chain-refused e = by-end ∙ rw e
 
-  pub lists-refused : walkEnds E (w .size) (w .count) (w .total) (w .off + 1) end ≡ true
-      → listsFrom E 256 (w .nodes) marks (w .heads) (w .count) (end .frees) 0 0 ≡ false → recordsAreSound E w marks ≡ false
+  pub lists-refused : walkEnds E (w .size) (w .count) (w .freeStorage) (w .freeOffset + 1) end ≡ true
+      → listsFrom E 256 (w .nodes) marks (w .binIndices) (w .count) (end .frees) 0 0 ≡ false → recordsAreSound E w marks ≡ false
   unfolding endIsSound
   lists-refused e l = by-end ∙ rw (e, l)
 
-  pub bits-decide : walkEnds E (w .size) (w .count) (w .total) (w .off + 1) end ≡ true
-      → listsFrom E 256 (w .nodes) marks (w .heads) (w .count) (end .frees) 0 0 ≡ true
-      → recordsAreSound E w marks ≡ bitsAgree E (w .heads) (w .leaves) (w .top)
+  pub bits-decide : walkEnds E (w .size) (w .count) (w .freeStorage) (w .freeOffset + 1) end ≡ true
+      → listsFrom E 256 (w .nodes) marks (w .binIndices) (w .count) (end .frees) 0 0 ≡ true
+      → recordsAreSound E w marks ≡ bitsAgree E (w .binIndices) (w .usedBins) (w .usedBinsTop)
   unfolding endIsSound
   bits-decide e l = by-end ∙ rw (e, l)
 
 -- ---- the pile before them
 module _ (E : Edition) (w : Words) (scratch : List ℕ) where
-  pub no-room : w .count ≤ w .off + 1 → wordsAreSound E w scratch ≡ false
+  pub no-room : w .count ≤ w .freeOffset + 1 → wordsAreSound E w scratch ≡ false
   unfolding wordsAreSound
   no-room l = rw (le-ltb _ _ l)
 
-  pub pile-refused : w .off + 1 < w .count → markFrom (w .off + 1) (w .nodes) (w .pile) (w .count) 0 scratch .fine ≡ false
+  pub pile-refused : w .freeOffset + 1 < w .count → markFrom (w .freeOffset + 1) (w .nodes) (w .pile) (w .count) 0 scratch .fine ≡ false
       → wordsAreSound E w scratch ≡ false
   unfolding wordsAreSound pileIsSound
   pile-refused l f = rw (lt-ltb _ _ l, f)
 
-  pub records-decide : w .off + 1 < w .count → markFrom (w .off + 1) (w .nodes) (w .pile) (w .count) 0 scratch .fine ≡ true
-      → wordsAreSound E w scratch ≡ recordsAreSound E w (markFrom (w .off + 1) (w .nodes) (w .pile) (w .count) 0 scratch .marks)
+  pub records-decide : w .freeOffset + 1 < w .count → markFrom (w .freeOffset + 1) (w .nodes) (w .pile) (w .count) 0 scratch .fine ≡ true
+      → wordsAreSound E w scratch ≡ recordsAreSound E w (markFrom (w .freeOffset + 1) (w .nodes) (w .pile) (w .count) 0 scratch .marks)
   unfolding wordsAreSound pileIsSound
   records-decide l f = rw (lt-ltb _ _ l, f)
 

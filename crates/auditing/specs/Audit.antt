@@ -1,7 +1,7 @@
 -- The audit: all its tests in order, and the call with its gate and its scratch. Assumes nothing.
 use mathlib.Core.Bool.{Bool, true, false, _&&_}
 use mathlib.Core.List.{List, [], _∷_}
-use Prim.Native.Nat.{ℕ, zero, suc, _+_}
+use Prim.Native.Nat.{ℕ, _+_}
 use lib.Dec.{ltb}
 use lib.ListN.{length}
 use Rattle.ledger.specs.Ledger.{Answer, done, refused}
@@ -27,11 +27,11 @@ module _ (E : Edition) (w : Words) where
   unfolding walkEnds listsFrom bitsAgree
   endIsSound marks end =
       -- "every other record .. occurs once in the neighbour chain"; "the kept free total is the true sum"
-      walkEnds E (w .size) (w .count) (w .total) (w .off + 1) end
+      walkEnds E (w .size) (w .count) (w .freeStorage) (w .freeOffset + 1) end
       -- "each class list holds exactly the free regions of its class"
-      && listsFrom E 256 (w .nodes) marks (w .heads) (w .count) (end .frees) 0 0
+      && listsFrom E 256 (w .nodes) marks (w .binIndices) (w .count) (end .frees) 0 0
       -- "a bit is set exactly where a list, or a leaf byte, is non-empty"
-      && bitsAgree E (w .heads) (w .leaves) (w .top)
+      && bitsAgree E (w .binIndices) (w .usedBins) (w .usedBinsTop)
 
   -- chain, lists and bits, the spare records being marked
   unfoldable pub recordsAreSound : (marks : List ℕ) → Bool
@@ -47,9 +47,9 @@ module _ (E : Edition) (w : Words) where
   unfolding pileIsSound markFrom
   wordsAreSound scratch =
       -- "every other record, at least one": the pile leaves one
-      ltb (w .off + 1) (w .count)
+      ltb (w .freeOffset + 1) (w .count)
       -- "spare record numbers are distinct, below the count, not marked live", and then the rest
-      && pileIsSound (markFrom (w .off + 1) (w .nodes) (w .pile) (w .count) 0 scratch)
+      && pileIsSound (markFrom (w .freeOffset + 1) (w .nodes) (w .pile) (w .count) 0 scratch)
 
 -- ---- the call
 unfoldable pub verdict : Bool → Answer

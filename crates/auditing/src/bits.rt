@@ -1,8 +1,7 @@
 // The two levels of bits, made anew from the heads of the lists and compared with those that are kept.
 ghost use mathlib.Core.Path.{_≡_};
-ghost use Prim.Native.Nat.{ℕ, _+_, _*_, _<_, _≤_};
-ghost use lib.ListN.{length, getD};
-ghost use Rattle.tables.specs.Linked.{mask, nonZero};
+ghost use Prim.Native.Nat.{_+_, _*_, _<_, _≤_};
+ghost use Rattle.tables.specs.Linked.{nonZero};
 ghost use Rattle.tables.specs.Calls.{edition32};
 ghost use Rattle.auditing.specs.Bits.{headBit, leafOf, topOf, leavesFrom, bitsAgree};
 use bins::nodes;

@@ -147,7 +147,7 @@ pub fn walk_from(nodes: &[u32], scratch: &[u32], t: Totals, first: u32) -> Walk
 pub fn walk_ends(t: Totals, w: Walk) -> bool
     requires { ⌜ w .records ≤ t .«max_allocs» ⌝ }
     requires { ⌜ t .«free_offset» + 1 < t .«max_allocs» ⌝ }
-    requires { ⌜ t .«max_allocs» ≤ 131072 ⌝ }
+    requires { ⌜ t .«max_allocs» ≤ edition32 .limit ⌝ }
     ensures { λ b. ⌜ b ≡ walkEnds edition32 (t .size) (t .«max_allocs») (t .«free_storage») (t .«free_offset» + 1) w ⌝ }
 {
     let spares = t.free_offset + 1;

@@ -1,7 +1,7 @@
 // The audit: do the words stand for a ledger? docs/AUDIT.md says what it asks and what it tests.
 ghost use mathlib.Core.Path.{_≡_};
 ghost use Prim.Native.Nat.{ℕ, _≤_, _<_, _+_};
-ghost use mathlib.Core.List.{List, []};
+ghost use mathlib.Core.List.{List};
 ghost use lib.ListN.{length};
 ghost use Rattle.tables.specs.Calls.{edition32};
 ghost use Rattle.tables.specs.Room.{Room, OfHead};
@@ -31,7 +31,7 @@ fn records_are_sound(
 ) -> bool
     requires { ⌜ HasRoom (t .«max_allocs») (now nodes) ⌝ }
     requires { ⌜ t .«max_allocs» ≤ length (now scratch) ⌝ }
-    requires { ⌜ t .«max_allocs» ≤ 131072 ⌝ }
+    requires { ⌜ t .«max_allocs» ≤ edition32 .limit ⌝ }
     requires { ⌜ t .«free_offset» + 1 < t .«max_allocs» ⌝ }
     ensures { λ b. ⌜ ((pile : List ℕ) → b
         ≡ recordsAreSound edition32 (wordsOf t (now («bin_indices» .entry)) (now («used_bins» .entry)) (now (nodes .entry)) pile) (now (scratch .entry))) ⌝ }

@@ -2,7 +2,6 @@
 ghost use mathlib.Core.Path.{_≡_};
 ghost use Prim.Native.Nat.{_+_, _-_, _<_, _≤_};
 ghost use lib.ListN.{length};
-ghost use Rattle.tables.specs.Layout.{binNext};
 ghost use Rattle.tables.specs.Calls.{edition32};
 ghost use Rattle.bins.specs.InWords.{HasRoom, InTable};
 ghost use Rattle.auditing.specs.Lists.{goodMember, nextMember, listFrom, listsFrom};

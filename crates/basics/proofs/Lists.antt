@@ -11,6 +11,13 @@ same-all [] (y ∷ b) e h = absurd (omega arith)
 same-all (x ∷ a) [] e h = absurd (omega arith)
 same-all (x ∷ a) (y ∷ b) e h = ap₂ {C = List ℕ} _∷_ (h 0) (same-all a b (omega arith) (λ i. h (suc i)))
 
+-- the same of the places that there are
+pub same-below : (a b : List ℕ) → length a ≡ length b → ((i : ℕ) → i < length a → getD a i 0 ≡ getD b i 0) → a ≡ b
+same-below [] [] e h = refl
+same-below [] (y ∷ b) e h = absurd (omega arith)
+same-below (x ∷ a) [] e h = absurd (omega arith)
+same-below (x ∷ a) (y ∷ b) e h = ap₂ {C = List ℕ} _∷_ (h 0 (omega arith)) (same-below a b (omega arith) (λ i l. h (suc i) (omega arith)))
+
 -- from place k on
 pub same-beyond : (k : ℕ) (a b : List ℕ) → length a ≡ length b → ((i : ℕ) → k ≤ i → getD a i 0 ≡ getD b i 0) → drop k a ≡ drop k b
 same-beyond zero a b e h = same-all a b e (λ i. h i (omega arith))

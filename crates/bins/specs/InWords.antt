@@ -1,10 +1,10 @@
 -- The words that the code's pieces make: totals by value, two arrays and two tables lent. Assumes nothing.
-use mathlib.Core.Path.{_≡_}
 use mathlib.Core.Logic.{_↔_}
 use Prim.Native.Nat.{ℕ, _+_, _*_, _≤_, _<_}
 use mathlib.Core.List.{List}
 use lib.ListN.{length}
 use Rattle.tables.specs.Words.{Words, Bounds}
+use Rattle.tables.specs.Calls.{edition32}
 use Rattle.answers.specs.Refusals.{numberOf}
 use Rattle.bins.specs.declared.totals.Totals.{Totals}
 use Rattle.bins.specs.declared.gate.Gate.{Gate}
@@ -14,18 +14,18 @@ abbrev pub wordsOf : Totals → (heads leaves nodes pile : List ℕ) → Words
 wordsOf t heads leaves nodes pile = record {
   size = t .size;
   count = t .«max_allocs»;
-  total = t .«free_storage»;
-  off = t .«free_offset»;
-  top = t .«used_bins_top»;
-  leaves = leaves;
-  heads = heads;
+  freeStorage = t .«free_storage»;
+  freeOffset = t .«free_offset»;
+  usedBinsTop = t .«used_bins_top»;
+  usedBins = leaves;
+  binIndices = heads;
   nodes = nodes;
   pile = pile;
 }
 
 -- n records, with the base's marker of an absent link
 abbrev pub bound : ℕ → Bounds
-bound n = record { n = n; none = 4294967295 }
+bound n = record { n = n; none = edition32 .none }
 
 -- the table holds all the words of n records; of record r
 abbrev pub HasRoom : ℕ → List ℕ → Type 0

@@ -1,6 +1,6 @@
 // The scalars of a head, by value: what the in-place calls take and give back beside the arrays and tables that they are lent.
 ghost use mathlib.Core.Path.{_≡_};
-ghost use Prim.Native.Nat.{_-_, _≤_};
+ghost use Prim.Native.Nat.{_-_};
 
 pub struct Totals {
     pub size: u32,

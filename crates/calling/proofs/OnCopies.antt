@@ -1,5 +1,5 @@
 -- A call or an audit made on a copy of a head with its tables, and what came of it as a store. Assumes nothing.
-use mathlib.Core.Path.{_≡_, refl, ap, subst, _∙_}
+use mathlib.Core.Path.{_≡_, ap, subst, _∙_}
 use mathlib.Core.List.{List}
 use Prim.Native.Nat.{ℕ}
 use Rattle.ledger.specs.Ledger as ledger

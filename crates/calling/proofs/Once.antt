@@ -4,13 +4,13 @@ use Rattle.tables.specs.Words.{Words}
 use Rattle.judging.specs.declared.answer.Answer.{Answer}
 use Rattle.judging.specs.declared.store.Store.{Store}
 use Rattle.judging.specs.declared.made.Made.{Made}
-use Rattle.calling.specs.Made.{AskedOn, OneOutcome}
+use Rattle.calling.specs.Made.{OneOutcome}
 
 abbrev storeIn : Words → Store
 storeIn w = record {
-  totals = record { size = w .size; «max_allocs» = w .count; «free_storage» = w .total; «free_offset» = w .off; «used_bins_top» = w .top };
-  «bin_indices» = w .heads;
-  «used_bins» = w .leaves;
+  totals = record { size = w .size; «max_allocs» = w .count; «free_storage» = w .freeStorage; «free_offset» = w .freeOffset; «used_bins_top» = w .usedBinsTop };
+  «bin_indices» = w .binIndices;
+  «used_bins» = w .usedBins;
   nodes = w .nodes;
   «free_nodes» = w .pile;
 }

@@ -25,7 +25,7 @@ toldBy p = (told (p .0), p .1)
 
 -- what a setup is lent of the words: in place the head's two arrays and the tables, by value the tables alone
 abbrev pub inPlace : Words → Lent
-inPlace w = lentOf (w .heads) (w .leaves) (w .nodes) (w .pile)
+inPlace w = lentOf (w .binIndices) (w .usedBins) (w .nodes) (w .pile)
 
 abbrev pub byValue : Words → Lent
 byValue w = tablesAlone (w .nodes) (w .pile)

@@ -1,7 +1,5 @@
 // The calls in place: the scalars of the head by value, its two arrays and the tables lent.
 ghost use mathlib.Core.Path.{_≡_};
-ghost use mathlib.Core.List.{List};
-ghost use Prim.Native.Nat.{ℕ};
 ghost use Rattle.tables.specs.Words.{Words};
 ghost use Rattle.bins.specs.InWords.{wordsOf};
 ghost use Rattle.judging.specs.declared.answer.Answer.{Answer as Told};

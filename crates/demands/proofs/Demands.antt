@@ -18,7 +18,7 @@ use Rattle.ledger.proofs.ByClass.{class-laws}
 use Rattle.tables.specs.Words.{Words, Edition}
 use Rattle.tables.specs.Room.{OfHead}
 use Rattle.tables.specs.Calls.{edition32, answerWords}
-use Rattle.tables.specs.Setup.{setupWords, Lent}
+use Rattle.tables.specs.Setup.{Lent}
 use Rattle.tables.specs.Sound.{Sound}
 use Rattle.tables.specs.Claims.{OneOf}
 use Rattle.tables.specs.Promise.{SetupPromise, Promise}
@@ -28,9 +28,9 @@ use Rattle.tables.proofs.Runs.{step-sound}
 use Rattle.tables.proofs.Given.{count-rows}
 use Rattle.auditing.specs.Promise.{AuditPromise}
 use Rattle.auditing.proofs.Claims as auditing
-use Rattle.demands.specs.Runs.{Done, did, Auditing, Step, called, audited, set-up, Run, nothing, then, NoSetup, askedOf, answersOf, callsOf, logOf}
+use Rattle.demands.specs.Runs.{Done, did, Auditing, called, audited, set-up, Run, nothing, then, NoSetup, askedOf, answersOf, callsOf, logOf}
 use Rattle.demands.specs.Demands.{Begun, Since, SinceMeans, Demands, BaseDemands, ledgerAfter}
-use Rattle.demands.proofs.Twins.{Twin, twins, run-lengths}
+use Rattle.demands.proofs.Twins.{twins, run-lengths}
 
 module _ (E : Edition) where
   -- ---- a run without a setup, from words that stand for a ledger: its log is the ledger's, and its end stands for the ledger's end
@@ -142,14 +142,14 @@ demands E = record {
   refusal-keeps = λ k p q. p .kept k q;
   refused-setup-keeps = λ k s q.
       let kept = s .kept k q in
-      (ap (λ (x : Words). x .heads) kept, ap (λ (x : Words). x .leaves) kept, ap (λ (x : Words). x .nodes) kept, ap (λ (x : Words). x .pile) kept);
+      (ap (λ (x : Words). x .binIndices) kept, ap (λ (x : Words). x .usedBins) kept, ap (λ (x : Words). x .nodes) kept, ap (λ (x : Words). x .pile) kept);
   refused-setup-zeros = λ k s q.
       let kept = s .kept k q in (
         ap (λ (x : Words). x .size) kept,
         ap (λ (x : Words). x .count) kept,
-        ap (λ (x : Words). x .total) kept,
-        ap (λ (x : Words). x .off) kept,
-        ap (λ (x : Words). x .top) kept,
+        ap (λ (x : Words). x .freeStorage) kept,
+        ap (λ (x : Words). x .freeOffset) kept,
+        ap (λ (x : Words). x .usedBinsTop) kept,
       );
   then-6 = λ {v = v} {c = c} k s q p.
       let none : v .count ≡ 0 = ap (λ (x : Words). x .count) (s .kept k q) in

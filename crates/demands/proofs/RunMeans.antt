@@ -1,5 +1,5 @@
 -- A run has everything that can be asked, and no answer but the promised one. Assumes nothing.
-use mathlib.Core.Path.{_≡_, refl, sym, ap, subst, _∙_}
+use mathlib.Core.Path.{_≡_, refl, sym, ap, subst}
 use mathlib.Core.List.{List, [], _∷_, _++_, map}
 use Prim.Native.Nat.{ℕ, _^_, _<_}
 use native.Mathlib.Omega.{arith}
@@ -20,7 +20,7 @@ use Rattle.demands.specs.Runs.{NoSetup, askedOf, answersOf, callsOf, log
 
 -- the words w as a setup in place is lent them
 abbrev lent-by : Words → Lent
-lent-by w = lentOf (w .heads) (w .leaves) (w .nodes) (w .pile)
+lent-by w = lentOf (w .binIndices) (w .usedBins) (w .nodes) (w .pile)
 
 module _ (E : Edition) where
   -- ---- the words that a step leaves are again a head's

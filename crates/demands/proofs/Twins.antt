@@ -2,18 +2,17 @@
 -- Assumes nothing.
 use mathlib.Core.Path.{_≡_, refl, sym, ap, ap₂, subst, _∙_}
 use mathlib.Core.Logic.{_⊎_, inl, inr}
-use mathlib.Core.List.{List, [], _∷_}
-use Prim.Native.Nat.{ℕ, zero, suc, _≤_, _<_}
+use mathlib.Core.List.{List, _∷_}
+use Prim.Native.Nat.{ℕ}
 use native.Mathlib.Omega.{arith}
 use lib.ListN.{length}
 use Rattle.basics.proofs.Clash.{clash}
 use Rattle.basics.proofs.Decided.{Below, below, beyond, below?}
-use Rattle.ledger.specs.Ledger.{Ledger, Answer, done, refused, setup, by-class, Stacks}
+use Rattle.ledger.specs.Ledger.{Ledger, Answer, refused, setup, by-class, Stacks}
 use Rattle.ledger.specs.Calls.{Call, answer}
 use Rattle.ledger.proofs.Records.{all-records}
 use Rattle.tables.specs.Words.{Words, Edition}
 use Rattle.tables.specs.Setup.{Lent, setupWords}
-use Rattle.tables.specs.Calls.{answerWords}
 use Rattle.tables.specs.Sound.{Sound}
 use Rattle.tables.specs.Room.{Room}
 use Rattle.tables.specs.Claims.{TooShort}
@@ -23,7 +22,7 @@ use Rattle.tables.proofs.SoundOf.{room-of}
 use Rattle.tables.proofs.Claims as tables
 use Rattle.auditing.specs.Promise.{AuditPromise}
 use Rattle.auditing.proofs.Claims as auditing
-use Rattle.demands.specs.Runs.{Asked, Done, did, LentFrom, Step, called, audited, set-up, Run, nothing, then, askedOf, answersOf}
+use Rattle.demands.specs.Runs.{Asked, Done, LentFrom, Step, called, audited, set-up, Run, nothing, then, askedOf, answersOf}
 
 -- tables of one length
 pub record OneLength (w v : Words) : Type 0 where

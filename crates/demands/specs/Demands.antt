@@ -3,7 +3,7 @@
 -- Assumes nothing.
 use mathlib.Core.Path.{_≡_}
 use mathlib.Core.List.{List, [], _∷_}
-use Prim.Native.Nat.{ℕ, _+_, _^_, _≤_, _<_}
+use Prim.Native.Nat.{ℕ, _+_, _≤_}
 use Rattle.ledger.specs.Ledger.{Ledger, Answer, granted, done, refused, setup, by-class, Stacks}
 use Rattle.ledger.specs.Calls.{Request, Call, Take, end, log, answer, Reset}
 use Rattle.ledger.specs.WellFormed.{WellFormed}
@@ -11,13 +11,13 @@ use Rattle.ledger.specs.Claims.{Claims, Reached}
 use Rattle.ledger.specs.Stretch.{Stretch}
 use Rattle.tables.specs.Words.{Words, Edition}
 use Rattle.tables.specs.Room.{OfHead}
-use Rattle.tables.specs.Setup.{Lent, setupWords}
+use Rattle.tables.specs.Setup.{Lent}
 use Rattle.tables.specs.Calls.{edition32}
 use Rattle.tables.specs.Sound.{Sound}
 use Rattle.tables.specs.Claims.{OneOf, mayGive}
 use Rattle.tables.specs.Promise.{Promise, SetupPromise}
 use Rattle.auditing.specs.Promise.{AuditPromise}
-use Rattle.demands.specs.Runs.{Done, did, Calling, Auditing, Run, NoSetup, askedOf, answersOf, callsOf, logOf}
+use Rattle.demands.specs.Runs.{Done, did, Auditing, Run, NoSetup, askedOf, answersOf, callsOf, logOf}
 
 -- document 01's ledger after the calls of a run that begins with l
 abbrev pub ledgerAfter : (size count : ℕ) → Ledger Stacks → List Done → Ledger Stacks
@@ -50,9 +50,9 @@ pub record Demands (E : Edition) : Type 0 where
   -- arrays and the two tables that it was lent as they came, and what it gives beside them are zeros, "whose count of 0 makes later calls give 6"
   pub refusal-keeps : {c : Call} {w v : Words} {a : Answer} (k : ℕ) → Promise E c w v a → a ≡ refused k → v ≡ w
   pub refused-setup-keeps : {size count : ℕ} {lent : Lent} {v : Words} {a : Answer} (k : ℕ) → SetupPromise E size count lent v a → a ≡ refused k
-      → (v .heads ≡ lent .heads) × (v .leaves ≡ lent .leaves) × (v .nodes ≡ lent .nodes) × (v .pile ≡ lent .pile)
+      → (v .binIndices ≡ lent .binIndices) × (v .usedBins ≡ lent .usedBins) × (v .nodes ≡ lent .nodes) × (v .pile ≡ lent .pile)
   pub refused-setup-zeros : {size count : ℕ} {lent : Lent} {v : Words} {a : Answer} (k : ℕ) → SetupPromise E size count lent v a → a ≡ refused k
-      → (v .size ≡ 0) × (v .count ≡ 0) × (v .total ≡ 0) × (v .off ≡ 0) × (v .top ≡ 0)
+      → (v .size ≡ 0) × (v .count ≡ 0) × (v .freeStorage ≡ 0) × (v .freeOffset ≡ 0) × (v .usedBinsTop ≡ 0)
   pub then-6 : {size count : ℕ} {lent : Lent} {v u : Words} {c : Call} {a b : Answer} (k : ℕ) → SetupPromise E size count lent v a → a ≡ refused k
       → Promise E c v u b → b ≡ refused 6
   -- "Even from spoiled tables no span outside the store is granted."

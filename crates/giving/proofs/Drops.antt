@@ -14,7 +14,7 @@ pub unlink-count : (K : Bounds) (w : Words) (q : ℕ) → unlink K w q .count �
 unfolding unlink unlinkAt
 unlink-count K w q = refl
 
-pub unlink-off : (K : Bounds) (w : Words) (q : ℕ) → unlink K w q .off ≡ w .off
+pub unlink-off : (K : Bounds) (w : Words) (q : ℕ) → unlink K w q .freeOffset ≡ w .freeOffset
 unfolding unlink unlinkAt
 unlink-off K w q = refl
 
@@ -24,7 +24,7 @@ unfolding unlink unlinkAt pushPile
 drop-count K true q w = refl
 drop-count K false q w = refl
 
-pub drop-off : (K : Bounds) (b : Bool) (q : ℕ) (w : Words) → dropIf K b q w .off ≡ w .off + one b
+pub drop-off : (K : Bounds) (b : Bool) (q : ℕ) (w : Words) → dropIf K b q w .freeOffset ≡ w .freeOffset + one b
 unfolding unlink unlinkAt pushPile
 drop-off K true q w = refl
 drop-off K false q w = omega arith
@@ -34,8 +34,8 @@ module _ (w : Words) {u : Words} (p : ℕ) (p-free : Bool) (first : u ≡ dropIf
   pub dropped-count : u .count ≡ w .count
   dropped-count = ap (λ (z : Words). z .count) first ∙ drop-count (bound (w .count)) p-free p w
 
-  pub dropped-off : u .off ≡ w .off + one p-free
-  dropped-off = ap (λ (z : Words). z .off) first ∙ drop-off (bound (w .count)) p-free p w
+  pub dropped-off : u .freeOffset ≡ w .freeOffset + one p-free
+  dropped-off = ap (λ (z : Words). z .freeOffset) first ∙ drop-off (bound (w .count)) p-free p w
 
   -- v is u without its neighbour x, where x is free
   pub both-dropped : {v : Words} (x : ℕ) (x-free : Bool) → v ≡ dropIf (bound (u .count)) x-free x u

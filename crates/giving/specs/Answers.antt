@@ -3,7 +3,7 @@ use mathlib.Core.Bool.{cond}
 use mathlib.Core.Path.{_≡_}
 use mathlib.Core.List.{List}
 use Prim.Native.Nat.{ℕ, _+_}
-use Rattle.ledger.specs.Ledger.{Answer, done, refused}
+use Rattle.ledger.specs.Ledger.{Answer}
 use Rattle.tables.specs.Layout.{dataOffset, dataSize, word}
 use Rattle.tables.specs.Words.{Words}
 use Rattle.tables.specs.HandBack.{BackPlan, stop, merge, Merged, isFree, planBack, doBack}

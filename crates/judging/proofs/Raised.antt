@@ -1,6 +1,6 @@
 -- A counter that was raised is not 0; and no two places of the table are one. Assumes nothing.
 use mathlib.Core.Path.{_≡_, refl}
-use mathlib.Core.Bool.{Bool, true, false}
+use mathlib.Core.Bool.{true, false}
 use Prim.Native.Nat.{ℕ}
 use native.Mathlib.Omega.{arith}
 use Rattle.basics.proofs.Decided.{Same, same, differ, same?}

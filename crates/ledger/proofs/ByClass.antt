@@ -2,12 +2,10 @@
 use mathlib.Core.Path.{_≡_, refl, sym, ap}
 use Prim.Native.Nat.{ℕ, _+_, _-_, _^_, _≤_, _<_}
 use native.Mathlib.Omega.{arith}
-use mathlib.Core.Bool.{_&&_}
 use mathlib.Core.Logic.{_↔_, _≢_}
 use mathlib.Core.Option.{none, some}
-use mathlib.Core.List.{List, [], _∷_, reverseAux}
-use lib.Dec.{eqb}
-use Rattle.basics.specs.Sum.{one, is, tally}
+use mathlib.Core.List.{List, [], _∷_}
+use Rattle.basics.specs.Sum.{is, tally}
 use Rattle.basics.proofs.Clash.{clash}
 use Rattle.basics.proofs.Decided.{Same, same, differ, same?, below, beyond, below?}
 use Rattle.basics.proofs.Sums.{tally-reverseAux, held-first}

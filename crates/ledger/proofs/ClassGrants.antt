@@ -1,15 +1,13 @@
 -- A grant by classes: of the lowest non-empty class at or above up(s), the region put there last; its remainder goes on top of its class.
 -- Assumes nothing.
-use mathlib.Core.Path.{_≡_, refl, ap, sym, _∙_, subst}
-use Prim.Native.Nat.{ℕ, zero, suc, _-_, _≤_}
+use mathlib.Core.Path.{_≡_, refl, ap, sym, subst}
+use Prim.Native.Nat.{ℕ, zero, suc, _-_}
 use native.Mathlib.Omega.{arith}
-use mathlib.Core.Bool.{cond}
 use mathlib.Core.Logic.{_≢_}
-use mathlib.Core.List.{List, [], _∷_}
-use lib.Dec.{eqb}
+use mathlib.Core.List.{List, _∷_}
 use lib.ListN.{getD}
 use Rattle.basics.proofs.Clash.{clash}
-use Rattle.basics.proofs.Decided.{Same, same, differ, same?, eqb-same, below, beyond, below?}
+use Rattle.basics.proofs.Decided.{same, differ, same?, eqb-same, below, beyond, below?}
 use Rattle.small_float.specs.Class.{down, up, classesInUse}
 use Rattle.ledger.specs.Ledger.{Ledger, Stacks, by-class, Region, free, onTop, remove, without, cut, take, granted}
 use Rattle.ledger.specs.WellFormed.{WellFormed}

@@ -2,10 +2,10 @@
 use mathlib.Core.Path.{_≡_, refl, sym, ap, _∙_, subst}
 use Prim.Native.Nat.{ℕ, _+_, _≤_}
 use native.Mathlib.Omega.{arith}
-use mathlib.Core.Bool.{Bool, true, false, cond, _&&_}
+use mathlib.Core.Bool.{cond}
 use mathlib.Core.Logic.{_≢_}
 use mathlib.Core.List.{List, [], _∷_, _++_, map}
-use lib.Dec.{eqb, ltb}
+use lib.Dec.{eqb}
 use Rattle.basics.specs.Sum.{one, is, tally}
 use Rattle.basics.proofs.Decided.{Same, same, differ, same?, eqb-same, Below, below, beyond, below?}
 use Rattle.basics.proofs.Counts.{Match, hit, miss, match?, is-own}

@@ -1,11 +1,10 @@
 -- The number and the figures of what a call on a ledger in order answers. Assumes nothing.
-use mathlib.Core.Path.{_≡_, refl, sym, ap, _∙_}
-use Prim.Native.Nat.{ℕ, zero, suc, _+_}
+use mathlib.Core.Path.{_≡_, refl, sym, ap}
+use Prim.Native.Nat.{ℕ, _+_}
 use native.Mathlib.Omega.{arith}
 use mathlib.Core.Logic.{_↔_, _≢_}
 use mathlib.Core.List.{List, [], _∷_, map}
 use lib.ListN.{length, replicate, length-map}
-use Rattle.basics.proofs.Clash.{clash}
 use Rattle.ledger.specs.Ledger.{Engine, Ledger, Stacks, by-class, Answer, granted, done, length-is, reported, classes, refused}
 use Rattle.ledger.specs.Ledger.{numbersFrom, fullAt, fullOf, take, handBack, sizeOf}
 use Rattle.ledger.specs.Laws.{Laws}

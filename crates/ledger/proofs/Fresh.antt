@@ -1,14 +1,12 @@
 -- A fresh store grants exactly what its size serves. Assumes nothing.
-use mathlib.Core.Path.{_≡_, refl, ap}
+use mathlib.Core.Path.{_≡_, ap}
 use Prim.Native.Nat.{ℕ, _-_, _^_, _≤_, _<_}
 use native.Mathlib.Omega.{arith}
 use mathlib.Core.Logic.{_↔_}
-use mathlib.Core.List.{List, []}
+use mathlib.Core.List.{[]}
 use lib.ListN.{length}
-use Rattle.basics.proofs.Clash.{clash}
-use Rattle.small_float.specs.Class.{down, up}
 use Rattle.small_float.specs.Facts.{Serves}
-use Rattle.ledger.specs.Ledger.{Ledger, Stacks, by-class, free, setup, take}
+use Rattle.ledger.specs.Ledger.{Ledger, Stacks, by-class, free, setup}
 use Rattle.ledger.specs.WellFormed.{WellFormed}
 use Rattle.ledger.specs.Spans.{At, first, FreeIn}
 use Rattle.ledger.specs.Claims.{Granted}

@@ -8,9 +8,8 @@ use Rattle.basics.specs.Sum.{is, tally}
 use Rattle.basics.proofs.Decided.{eqb-same}
 use Rattle.basics.proofs.Sums.{both-second}
 use Rattle.small_float.specs.Class.{down}
-use Rattle.ledger.specs.Ledger.{Region, live, free, stands, Stacked, Stacks, by-class, beside}
+use Rattle.ledger.specs.Ledger.{Region, live, free, stands, Stacks, by-class, beside}
 use Rattle.ledger.specs.WellFormed.{has}
-use Rattle.ledger.proofs.Places.{Between, sum-at}
 use Rattle.ledger.proofs.Stacks.{tally-without}
 
 -- a free region stands in its own class, and only a region that has a record stands for it
@@ -20,11 +19,6 @@ stands-own n r = rw (eqb-same (down n), eqb-same r)
 pub stands-le : (c r : ℕ) (x : Region) → stands c r x ≤ has r x
 stands-le c r (live n q) = omega arith
 stands-le c r (free n q) = both-second (eqb c (down n)) (eqb q r)
-
--- so its stack holds it
-pub in-its-stack : {before after line : List Region} {n r : ℕ} (stacks : ℕ → List ℕ) → Between before (free n r) after line → Stacked line stacks
-    → 1 ≤ tally (is r) (stacks (down n))
-in-its-stack {n = n} {r = r} stacks b w = omega (arith, sum-at b (stands (down n) r), w .exactly (down n) r, stands-own n r)
 
 -- one side of a region handed back: the stacks lose what the side loses
 pub side-stands : (stacks : Stacks) (side : List Region) → ((c i : ℕ) → tally (stands c i) side ≤ tally (is i) (stacks c))

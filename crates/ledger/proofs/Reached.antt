@@ -1,11 +1,11 @@
 -- Which ledgers are reached, and what the setup and a reset leave. Assumes nothing.
 use mathlib.Core.Path.{_≡_, refl, sym, ap, _∙_}
-use Prim.Native.Nat.{ℕ, suc, _+_, _-_, _≤_, _<_}
+use Prim.Native.Nat.{ℕ, _+_, _-_, _≤_, _<_}
 use native.Mathlib.Omega.{arith}
-use mathlib.Core.List.{List, [], _∷_, _++_, map}
+use mathlib.Core.List.{[], _∷_, _++_}
 use lib.ListN.{length, getD}
-use Rattle.ledger.specs.Ledger.{Engine, Ledger, Answer, free, done, numbersFrom, setup}
-use Rattle.ledger.specs.Calls.{Call, Reset, callOf, answerOf, answer, end, answers, log}
+use Rattle.ledger.specs.Ledger.{Engine, Ledger, free, done, setup}
+use Rattle.ledger.specs.Calls.{Call, Reset, answer, end}
 use Rattle.ledger.specs.Claims.{Reached}
 use Rattle.ledger.proofs.Numbers.{length-numbersFrom, numbers-each}
 use Rattle.ledger.proofs.RunsMean.{end-last}

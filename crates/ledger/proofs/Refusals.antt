@@ -4,18 +4,18 @@ use Rattle.ledger.specs.Laws.{Laws}
 use mathlib.Core.Path.{_≡_, refl, ap, _∙_, subst}
 use Prim.Native.Nat.{ℕ, _^_, _≤_, _<_}
 use native.Mathlib.Omega.{arith}
-use mathlib.Core.Logic.{_↔_, _⊎_, inl, inr, _≢_}
+use mathlib.Core.Logic.{_↔_, _⊎_, inl, inr}
 use mathlib.Core.Option.{none}
 use mathlib.Core.List.{List, _∷_, _++_}
 use lib.ListN.{length}
-use Rattle.basics.specs.Sum.{is, tally}
+use Rattle.basics.specs.Sum.{tally}
 use Rattle.basics.proofs.Clash.{clash}
 use Rattle.basics.proofs.Decided.{Below, below, beyond, below?}
 use Rattle.ledger.specs.Calls.{answer, Call, Take, HandBack, SizeOf, Report, FullReport, Reset, Ask}
 use Rattle.ledger.specs.WellFormed.{WellFormed}
 use Rattle.ledger.specs.Spans.{At}
 use Rattle.ledger.specs.Claims.{Granted, Refused, NoneReaches, Live, CanRefuse, too-few-spares, none-reaches, unknown}
-use Rattle.ledger.proofs.Places.{between-at, at-weighs, at-front, split, same-region}
+use Rattle.ledger.proofs.Places.{between-at, at-front, split, same-region}
 use Rattle.ledger.proofs.Records.{once-in-line, record-below}
 use Rattle.ledger.proofs.Cases.{TakeCase, few-spares, no-region, serves, take-case, LiveCase, is-live, not-live, live-case}
 

@@ -13,7 +13,7 @@ use Rattle.ledger.specs.WellFormed.{WellFormed}
 use Rattle.ledger.specs.Spans.{FreeIn}
 use Rattle.ledger.specs.Claims.{Granted}
 use Rattle.ledger.proofs.Places.{between-at}
-use Rattle.ledger.proofs.Cases.{Serving, TakeCase, few-spares, no-region, serves, take-case}
+use Rattle.ledger.proofs.Cases.{TakeCase, few-spares, no-region, serves, take-case}
 
 module _ (E : Engine) (laws : Laws E) where
   pub report-one-spare : (l : Ledger (E .Index)) → length (l .pile) ≤ 1 → report E l ≡ (0, 0)

@@ -1,6 +1,6 @@
 -- A hand-back straight after a grant undoes it: line, stacks and pile are what they were. Assumes nothing.
 use Rattle.ledger.specs.Ledger.{Engine, Ledger, Region, live, free, granted, done}
-use Rattle.ledger.specs.Ledger.{Side, cut, beside, merge, take, handBack, giveBack}
+use Rattle.ledger.specs.Ledger.{cut, beside, merge, take, handBack, giveBack}
 use Rattle.ledger.specs.Laws.{Laws}
 use mathlib.Core.Path.{_≡_, refl, sym}
 use Prim.Native.Nat.{ℕ, zero, suc, _+_, _-_, _≤_}

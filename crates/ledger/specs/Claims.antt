@@ -15,7 +15,7 @@ use Rattle.small_float.specs.Class.{down, up, value, shownValue}
 use Rattle.small_float.specs.Facts.{Serves}
 use Rattle.ledger.specs.Ledger.{Engine, by-class, Stacks, Ledger, Region, live, free, len, rec, granted, done, length-is, refused}
 use Rattle.ledger.specs.Ledger.{setup, take, handBack, sizeOf, freeLen, report, fullReport, numbersFrom}
-use Rattle.ledger.specs.Calls.{Request, Token, SizeOf, Call, Take, HandBack, Reset, Ask, callOf, answerOf, answer, end, answers, log}
+use Rattle.ledger.specs.Calls.{Request, Token, SizeOf, Call, Take, HandBack, Reset, Ask, answer, end, answers, log}
 use Rattle.ledger.specs.Figures.{refusalOf, figureCount, figuresOf}
 use Rattle.ledger.specs.WellFormed.{WellFormed}
 use Rattle.ledger.specs.Spans.{At, FreeIn, Among, Disjoint, AllLeave}

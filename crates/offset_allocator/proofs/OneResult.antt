@@ -19,16 +19,16 @@ module _ (t u : Totals) (hs ls ns ps gs ks ms qs : List ℕ) (e : wordsOf t hs l
   same-totals = λ i. record {
     size = e i .size;
     «max_allocs» = e i .count;
-    «free_storage» = e i .total;
-    «free_offset» = e i .off;
-    «used_bins_top» = e i .top;
+    «free_storage» = e i .freeStorage;
+    «free_offset» = e i .freeOffset;
+    «used_bins_top» = e i .usedBinsTop;
   }
 
 placed : (v u : InPlace) → in-place .words v ≡ in-place .words u → v ≡ u
 placed v u e = λ i. record {
-  totals = same-totals (v .totals) (u .totals) (v .heads) (v .leaves) (v .nodes) (v .pile) (u .heads) (u .leaves) (u .nodes) (u .pile) e i;
-  heads = e i .heads;
-  leaves = e i .leaves;
+  totals = same-totals (v .totals) (u .totals) (v .binIndices) (v .usedBins) (v .nodes) (v .pile) (u .binIndices) (u .usedBins) (u .nodes) (u .pile) e i;
+  binIndices = e i .binIndices;
+  usedBins = e i .usedBins;
   nodes = e i .nodes;
   pile = e i .pile;
 }
@@ -38,8 +38,8 @@ valued v u e = λ i. record {
   head = record {
     totals = same-totals (v .head .totals) (u .head .totals) (v .head .«bin_indices») (v .head .«used_bins») (v .nodes) (v .pile)
         (u .head .«bin_indices») (u .head .«used_bins») (u .nodes) (u .pile) e i;
-    «bin_indices» = e i .heads;
-    «used_bins» = e i .leaves;
+    «bin_indices» = e i .binIndices;
+    «used_bins» = e i .usedBins;
   };
   nodes = e i .nodes;
   pile = e i .pile;
@@ -64,6 +64,7 @@ one-result-in F fixed = record {
   of-back = λ c w a b v u p q. (one-value .of-back a b (answers-same p q), fixed v u (words-same p q));
   of-size = λ q w a b p r. one-value .of-size a b (answers-same p r);
   of-report = λ q w a b p r. one-value .of-report a b (answers-same p r);
+  of-full = λ q w a b l m z y p r. one-value .of-full a b l m z y (answers-same p r);
   of-audit = λ w scratch left other a b p q. (
     one-value .of-audit a b (ap (λ (x : Answer × List ℕ). x .0) (p .exact ∙ sym (q .exact))),
     ap (λ (x : Answer × List ℕ). x .1) (p .exact ∙ sym (q .exact)),

@@ -1,9 +1,8 @@
--- Any two results that a contract of a call allows are the same values of the code: answers, totals or head, arrays, tables, scratch. Of the full report
--- this says that no two that are allowed differ in what they say. proofs/OneResult.antt makes it. Assumes nothing.
+-- Any two results that a contract of a call allows are the same values of the code: answers, totals or head, arrays, tables, scratch.
+-- proofs/OneResult.antt makes it. Assumes nothing.
 use mathlib.Core.Path.{_≡_}
 use mathlib.Core.List.{List}
 use Prim.Native.Nat.{ℕ}
-use Rattle.ledger.specs.Ledger.{Answer}
 use Rattle.ledger.specs.Calls.{Question, Ask, Call}
 use Rattle.tables.specs.Words.{Words}
 use Rattle.tables.specs.Setup.{Lent}
@@ -15,8 +14,9 @@ use Rattle.answers.specs.declared.TakeAnswer.{TakeAnswer}
 use Rattle.answers.specs.declared.BackAnswer.{BackAnswer}
 use Rattle.answers.specs.declared.SizeAnswer.{SizeAnswer}
 use Rattle.answers.specs.declared.ReportAnswer.{ReportAnswer}
+use Rattle.answers.specs.declared.FullAnswer.{FullAnswer}
 use Rattle.answers.specs.declared.AuditAnswer.{AuditAnswer}
-use Rattle.answers.specs.Answers.{startSays, takeSays, backSays, sizeSays, reportSays, auditSays}
+use Rattle.answers.specs.Answers.{startSays, takeSays, backSays, sizeSays, reportSays, fullSays, AllPlaces, FiguresOfZero, auditSays}
 use Rattle.bins.specs.declared.totals.Totals.{Totals}
 use Rattle.bins.specs.InWords.{wordsOf}
 use Rattle.offset_allocator.specs.declared.head.Head.{Head}
@@ -25,8 +25,8 @@ use Rattle.offset_allocator.specs.HeadWords.{headWords}
 -- what a call leaves, in place and by value
 pub record InPlace : Type 0 where
   pub totals : Totals
-  pub heads : List ℕ
-  pub leaves : List ℕ
+  pub binIndices : List ℕ
+  pub usedBins : List ℕ
   pub nodes : List ℕ
   pub pile : List ℕ
 
@@ -41,7 +41,7 @@ pub record Form : Type 1 where
   pub words : Left → Words
 
 abbrev pub in-place : Form
-in-place = record { Left = InPlace; words = λ v. wordsOf (v .totals) (v .heads) (v .leaves) (v .nodes) (v .pile) }
+in-place = record { Left = InPlace; words = λ v. wordsOf (v .totals) (v .binIndices) (v .usedBins) (v .nodes) (v .pile) }
 
 abbrev pub by-value : Form
 by-value = record { Left = ByValue; words = λ v. headWords (v .head) (v .nodes) (v .pile) }
@@ -60,5 +60,7 @@ pub record OneResult (F : Form) : Type 0 where
       → a ≡ b
   pub of-report : (q : Question) (w : Words) (a b : ReportAnswer) → Promise edition32 (Ask q) w w (reportSays a)
       → Promise edition32 (Ask q) w w (reportSays b) → a ≡ b
+  pub of-full : (q : Question) (w : Words) (a b : FullAnswer) → AllPlaces a → AllPlaces b → FiguresOfZero a → FiguresOfZero b
+      → Promise edition32 (Ask q) w w (fullSays a) → Promise edition32 (Ask q) w w (fullSays b) → a ≡ b
   pub of-audit : (w : Words) (scratch left other : List ℕ) (a b : AuditAnswer) → AuditPromise edition32 w scratch left (auditSays a)
       → AuditPromise edition32 w scratch other (auditSays b) → (a ≡ b) × (left ≡ other)

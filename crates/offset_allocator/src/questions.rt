@@ -1,7 +1,7 @@
 // The questions, with the head by value. They write nothing, so the head does not come back.
 ghost use Rattle.ledger.specs.Calls.{SizeOf, Report, FullReport};
 ghost use Rattle.answers.specs.Asked.{tokenOf};
-ghost use Rattle.answers.specs.Answers.{sizeSays, reportSays, fullSays, FiguresOfZero};
+ghost use Rattle.answers.specs.Answers.{sizeSays, reportSays, fullSays, FiguresOfZero, AllPlaces};
 ghost use Rattle.asking.specs.Answers.{Asked};
 ghost use Rattle.offset_allocator.specs.HeadWords.{headWords};
 use crate::head::Head;
@@ -35,6 +35,7 @@ impl Head {
     pub fn storage_report_full(self, nodes: &[u32], free_nodes: &[u32]) -> FullAnswer
         ensures exact { λ a. ⌜ Asked (fullSays a) FullReport (headWords self (now (nodes .entry)) (now («free_nodes» .entry))) ⌝ }
         ensures figures { λ a. ⌜ FiguresOfZero a ⌝ }
+        ensures places { λ a. ⌜ AllPlaces a ⌝ }
     {
         let t = self.totals;
         let bin_indices = self.bin_indices;

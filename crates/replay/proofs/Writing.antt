@@ -1,11 +1,11 @@
 -- Every number has a text, every row of numbers too, and any digits are a number; and what a tally that adds up tells. Assumes nothing.
 use Prim.Native.Nat.{ℕ, zero, suc, _+_, _*_, _/_, _-_, _%_, _^_, _≤_, _<_}
-use mathlib.Core.Path.{_≡_, refl, sym, ap, subst}
+use mathlib.Core.Path.{_≡_, sym, subst}
 use mathlib.Core.Logic.{_↔_}
 use mathlib.Core.List.{List, [], _∷_, _++_, append-assoc, append-nil}
 use native.Mathlib.Omega.{arith}
 use lib.ListN.{length, getD}
-use Rattle.basics.proofs.Decided.{Below, below, beyond, below?}
+use Rattle.basics.proofs.Decided.{below, beyond, below?}
 use Rattle.replay.specs.declared.tally.Tally.{Tally}
 use Rattle.replay.specs.Facts.{Decimal, one-digit, digit-more, Numbers, none, number-more, Written, RowWritten, AddsUp}
 

@@ -1,5 +1,4 @@
 -- When a row of the list of runs agrees with the row that the port would write, and when it shows a listed difference. Assumes nothing.
-use Prim.Native.Nat.{ℕ}
 use mathlib.Core.Bool.{cond}
 use lib.Dec.{eqb}
 use Rattle.replay.specs.declared.rows.Reader.{Reader}

@@ -1,6 +1,5 @@
 -- Document 01's rows marked P, computed. Assumes nothing.
-use mathlib.Core.Path.{_≡_, refl, sym, ap, _∙_, subst}
-use Prim.Native.Nat.{ℕ}
+use mathlib.Core.Path.{_≡_, refl, sym, ap, subst}
 use mathlib.Core.List.{List, [], _∷_, _++_, map}
 use Rattle.basics.proofs.Clash.{clash}
 use Rattle.small_float.specs.Class.{down, up}

@@ -1,5 +1,5 @@
 -- The outcomes of setup and reset, each the model's: started afresh, shut out by the gate, let in. Assumes nothing.
-use mathlib.Core.Path.{_≡_, refl, sym, ap, _∙_}
+use mathlib.Core.Path.{_≡_, sym, ap, _∙_}
 use mathlib.Core.List.{List}
 use Prim.Native.Nat.{ℕ, _<_, _^_}
 use native.Mathlib.Omega.{arith}
@@ -22,7 +22,7 @@ use Rattle.bins.specs.InWords.{bound, gateNumber}
 
 -- record 0 leaves the blank pile and goes into its class
 pub afresh : (size count : ℕ) (nodes pile : List ℕ) {w v u : Words} → w ≡ blank edition32 size count nodes pile → v ≡ popPile w
-    → u ≡ insert (bound (v .count)) v size 0 0 4294967295 4294967295 → u ≡ fresh edition32 size count nodes pile
+    → u ≡ insert (bound (v .count)) v size 0 0 (edition32 .none) (edition32 .none) → u ≡ fresh edition32 size count nodes pile
 unfolding fresh blank popPile
 afresh size count nodes pile e f g = rw (g, f, e)
 

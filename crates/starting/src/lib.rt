@@ -44,7 +44,7 @@ fn one_region(
     ensures { λ u. ⌜ ((pile : List ℕ) →
         wordsOf u (now («bin_indices» .exit)) (now («used_bins» .exit)) (now (nodes .exit)) pile
         ≡ insert (bound (t .«max_allocs»))
-        (wordsOf t (now («bin_indices» .entry)) (now («used_bins» .entry)) (now (nodes .entry)) pile) size 0 0 4294967295 4294967295) ⌝ }
+        (wordsOf t (now («bin_indices» .entry)) (now («used_bins» .entry)) (now (nodes .entry)) pile) size 0 0 (edition32 .none) (edition32 .none)) ⌝ }
 {
     bins::insert::insert_node_into_bin(bin_indices, used_bins, nodes, t, size, 0, 0, NONE, NONE)
 }

@@ -83,7 +83,7 @@ module _ (n : ℕ) {w v : Words} (A : Agree n w v) where
   unfolding pushPile
   pushPile-agree r =
       by-tables n A (λ (u : Words). Agree n (pushPile w r) (pushPile u r))
-      (tables-agree n (pushPile w r) (A .nodes-is) (set-agree (pileNeeded n) (w .off + 1) r (A .pile-is)))
+      (tables-agree n (pushPile w r) (A .nodes-is) (set-agree (pileNeeded n) (w .freeOffset + 1) r (A .pile-is)))
 
   pub popPile-agree : Agree n (popPile w) (popPile v)
   unfolding popPile

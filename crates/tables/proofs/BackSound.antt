@@ -29,7 +29,7 @@ use Rattle.tables.specs.Sound.{Sound}
 use Rattle.tables.proofs.Linked.{last, linked-split}
 use Rattle.tables.proofs.Lines.{recs-append, Chain, reads-at}
 use Rattle.tables.proofs.Place.{Standing, Gap, placed}
-use Rattle.tables.proofs.SoundOf.{passes, standing, sound-from}
+use Rattle.tables.proofs.SoundOf.{standing, sound-from}
 use Rattle.tables.proofs.SizeSound.{known-idle, known-live}
 use Rattle.tables.proofs.Sides.{opens, one-owed, SideBefore, side-before, SideAfter, side-after}
 
@@ -122,7 +122,7 @@ module _ (E : Edition) (w : Words) (l : Ledger Stacks) (S : Sound E w l) (r : �
       start = tally len (reverse (b-side .rest));
       before = last (E .none) (recs (reverse (b-side .rest)));
       after = first (recs (a-side .rest)) (E .none);
-      total = w .total + n;
+      total = w .freeStorage + n;
     }
 
     merged-is : mergedOf w r p x (opens before) (opens after) ≡ merged
@@ -132,7 +132,7 @@ module _ (E : Edition) (w : Words) (l : Ledger Stacks) (S : Sound E w l) (r : �
       start = B .start-is i;
       before = B .link-is i;
       after = A .link-is i;
-      total = w .total + reads .1 .1 i;
+      total = w .freeStorage + reads .1 .1 i;
     }
 
     module _ (outcome : handBack by-class r l ≡ (done, merge by-class before n r after l)) where
@@ -146,16 +146,16 @@ module _ (E : Edition) (w : Words) (l : Ledger Stacks) (S : Sound E w l) (r : �
       unfolding merge
       next-sum f = tally-reverseAux f (b-side .rest) (free whole r ∷ a-side .rest)
 
-      total-is : w .total + n ≡ tally freeLen (merge by-class before n r after l .line)
+      total-is : w .freeStorage + n ≡ tally freeLen (merge by-class before n r after l .line)
       total-is = omega (arith, S .total, sum-at place freeLen, next-sum freeLen, side-free before (l .index), side-free after (b-side .index))
 
       whole-most : whole ≤ w .size
       whole-most = omega (arith, next-well .lined .cover, next-sum len)
 
-      total-most : w .total + n ≤ w .size
+      total-most : w .freeStorage + n ≤ w .size
       total-most = omega (arith, next-well .lined .cover, total-is, tally-le freeLen len free-most (merge by-class before n r after l .line))
 
-      off-below : w .off + one (opens before) + one (opens after) < w .count
+      off-below : w .freeOffset + one (opens before) + one (opens after) < w .count
       off-below = unfold merge in omega (
         arith,
         S .spare .spares,
@@ -176,8 +176,8 @@ module _ (E : Edition) (w : Words) (l : Ledger Stacks) (S : Sound E w l) (r : �
           passed : planMerged w p x (opens before) (opens after) merged ≡ BackPlan.merge p x (opens before) (opens after) merged
           passed = unfold planMerged in rw (
             le-ltb (w .size) whole whole-most,
-            le-ltb (w .size) (w .total + n) total-most,
-            lt-ltb (w .off + one (opens before) + one (opens after)) (w .count) off-below,
+            le-ltb (w .size) (w .freeStorage + n) total-most,
+            lt-ltb (w .freeOffset + one (opens before) + one (opens after)) (w .count) off-below,
           )
 
       -- ---- and the words after it stand for the ledger after it
@@ -196,7 +196,7 @@ module _ (E : Edition) (w : Words) (l : Ledger Stacks) (S : Sound E w l) (r : �
 
       merging-sound : Sound E (merging (bounds E w) w r p x (opens before) (opens after) merged) (merge by-class before n r after l)
       unfolding merging merge
-      merging-sound = sound-from E (insert (bounds E w) u whole (merged .start) r (merged .before) (merged .after)) (w .total + n)
+      merging-sound = sound-from E (insert (bounds E w) u whole (merged .start) r (merged .before) (merged .after)) (w .freeStorage + n)
           (merge by-class before n r after l) (w .size) (w .count)
           (unfold insert insertAt in drop-size (opens after) x v ∙ drop-size (opens before) p w)
           (unfold insert insertAt in drop-count (opens after) x v ∙ drop-count (opens before) p w)

@@ -27,14 +27,14 @@ walk-lost (suc fuel) nodes count a n h =
     rw (lt-ltb a count (h 0 (omega arith))) (walk-lost fuel nodes count (word nodes binNext a) (n + 1) (λ k l. h (suc k) (omega arith)))
 
 -- one class whose walk is lost, among the k classes from b on
-module _ (w : Words) (c : ℕ) (around : listLength (w .count) (w .nodes) (w .count) (getD (w .heads) c 0) 0 ≡ lost) where
+module _ (w : Words) (c : ℕ) (around : listLength (w .count) (w .nodes) (w .count) (getD (w .binIndices) c 0) 0 ≡ lost) where
   counting-ends : (k b : ℕ) (so-far : List ℕ) → b ≤ c → c < b + k → countFrom k w b so-far ≡ circular
   unfolding countFrom noted
   counting-ends zero b so-far l h = absurd (omega arith)
   counting-ends (suc k) b so-far l h =
-      go (listLength (w .count) (w .nodes) (w .count) (getD (w .heads) b 0) 0) refl (counting-ends k (suc b))
+      go (listLength (w .count) (w .nodes) (w .count) (getD (w .binIndices) b 0) 0) refl (counting-ends k (suc b))
     where
-      go : (x : Walked) → listLength (w .count) (w .nodes) (w .count) (getD (w .heads) b 0) 0 ≡ x
+      go : (x : Walked) → listLength (w .count) (w .nodes) (w .count) (getD (w .binIndices) b 0) 0 ≡ x
           → ((next : List ℕ) → suc b ≤ c → c < suc b + k → countFrom k w (suc b) next ≡ circular)
           → noted x (countFrom k w (suc b)) b so-far ≡ circular
       go lost e later = refl
@@ -50,8 +50,8 @@ circular-6 E w c l h room =
     ap (λ (o : Answer × Words). o .0) (call-open E (Ask FullReport) w room)
     ∙ (unfold toldBy fullReportOf fullAnswer in ap fullAnswer (counting-ends w c around 256 0 (replicate 256 0) (omega arith) (omega arith)))
   where
-    around : listLength (w .count) (w .nodes) (w .count) (getD (w .heads) c 0) 0 ≡ lost
-    around = walk-lost (w .count) (w .nodes) (w .count) (getD (w .heads) c 0) 0 h
+    around : listLength (w .count) (w .nodes) (w .count) (getD (w .binIndices) c 0) 0 ≡ lost
+    around = walk-lost (w .count) (w .nodes) (w .count) (getD (w .binIndices) c 0) 0 h
 
 -- ---- and nothing else ends it so
 -- a walk that is lost met a record at every step
@@ -75,17 +75,17 @@ lost-walks (suc fuel) nodes count a n e k l = go k l (below? a count) (lost-walk
 
 -- a full report without figures has a class whose walk is lost
 lost-among : (w : Words) (k b : ℕ) (so-far : List ℕ) → countFrom k w b so-far ≡ circular
-    → (c : ℕ) × (c < b + k) × (listLength (w .count) (w .nodes) (w .count) (getD (w .heads) c 0) 0 ≡ lost)
+    → (c : ℕ) × (c < b + k) × (listLength (w .count) (w .nodes) (w .count) (getD (w .binIndices) c 0) 0 ≡ lost)
 unfolding countFrom noted
 lost-among w zero b so-far e = clash (cc)
 lost-among w (suc k) b so-far e =
-    go (listLength (w .count) (w .nodes) (w .count) (getD (w .heads) b 0) 0) refl e (lost-among w k (suc b))
+    go (listLength (w .count) (w .nodes) (w .count) (getD (w .binIndices) b 0) 0) refl e (lost-among w k (suc b))
   where
-    go : (x : Walked) → listLength (w .count) (w .nodes) (w .count) (getD (w .heads) b 0) 0 ≡ x
+    go : (x : Walked) → listLength (w .count) (w .nodes) (w .count) (getD (w .binIndices) b 0) 0 ≡ x
         → noted x (countFrom k w (suc b)) b so-far ≡ circular
         → ((next : List ℕ) → countFrom k w (suc b) next ≡ circular
-        → (c : ℕ) × (c < suc b + k) × (listLength (w .count) (w .nodes) (w .count) (getD (w .heads) c 0) 0 ≡ lost))
-        → (c : ℕ) × (c < b + suc k) × (listLength (w .count) (w .nodes) (w .count) (getD (w .heads) c 0) 0 ≡ lost)
+        → (c : ℕ) × (c < suc b + k) × (listLength (w .count) (w .nodes) (w .count) (getD (w .binIndices) c 0) 0 ≡ lost))
+        → (c : ℕ) × (c < b + suc k) × (listLength (w .count) (w .nodes) (w .count) (getD (w .binIndices) c 0) 0 ≡ lost)
     go lost f q later = (b, omega arith, f)
     go (steps n) f q later = let found = later (set so-far b n) q in (found .0, omega (arith, found .1), found .2)
 
@@ -104,4 +104,4 @@ circular-exactly E w room = (λ e. tells (rw (opens) at e), λ x. circular-6 E w
     tells : fullAnswer (countFrom 256 w 0 (replicate 256 0)) ≡ refused 6 → (c : ℕ) × (c < 256) × Circular w c
     tells e =
         let found = lost-among w 256 0 (replicate 256 0) (told-circular (countFrom 256 w 0 (replicate 256 0)) e) in
-        (found .0, omega (arith, found .1), lost-walks (w .count) (w .nodes) (w .count) (getD (w .heads) (found .0) 0) 0 (found .2))
+        (found .0, omega (arith, found .1), lost-walks (w .count) (w .nodes) (w .count) (getD (w .binIndices) (found .0) 0) 0 (found .2))

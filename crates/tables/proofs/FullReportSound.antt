@@ -18,7 +18,7 @@ use Rattle.tables.specs.Questions.{steps, listLength, counts, noted, cou
 use Rattle.tables.specs.Linked.{first}
 use Rattle.tables.specs.Sound.{Sound}
 use Rattle.tables.proofs.Shelf.{Bin, in-below, in-distinct}
-use Rattle.tables.proofs.SoundOf.{passes, count-none, shelf-of}
+use Rattle.tables.proofs.SoundOf.{count-none, shelf-of}
 
 module _ (E : Edition) (w : Words) (l : Ledger Stacks) (S : Sound E w l) where
   -- the length of a list, walked
@@ -33,7 +33,7 @@ module _ (E : Edition) (w : Words) (l : Ledger Stacks) (S : Sound E w l) where
       rw (lt-ltb x (w .count) (h x (held-first x xs)), k .1)
       (walked xs fuel x (n + 1) (omega arith) (λ q m. h q (in-tail q x xs m)) (k .2) ∙ ap steps one-more)
 
-  list-length : (c : ℕ) → c < 256 → listLength (w .count) (w .nodes) (w .count) (getD (w .heads) c 0) 0 ≡ steps (length (l .index c))
+  list-length : (c : ℕ) → c < 256 → listLength (w .count) (w .nodes) (w .count) (getD (w .binIndices) c 0) 0 ≡ steps (length (l .index c))
   list-length c h =
       let below-count = in-below (bounds E w) w (l .index) (l .pile) (shelf-of E w l S) c in
       let few = pigeons (w .count) (l .index c) below-count (in-distinct (bounds E w) w (l .index) (l .pile) (shelf-of E w l S) c) in

@@ -14,7 +14,7 @@ use Rattle.ledger.specs.Calls.{Request, Question, SizeOf, Report, FullReport, C
 use Rattle.ledger.proofs.SmallStores.{small-stores}
 use Rattle.tables.specs.Layout.{used, word, nodesNeeded, pileNeeded}
 use Rattle.tables.specs.Words.{Words}
-use Rattle.tables.specs.Search.{lowFrom, lowInBin, leafOrAbove, findClass}
+use Rattle.tables.specs.Search.{lowInBin, leafOrAbove, findClass}
 use Rattle.tables.specs.Search as found
 use Rattle.tables.specs.Take.{planClass, planTake, doTake}
 use Rattle.tables.specs.Setup.{Lent, tablesAlone, setupWords}
@@ -72,7 +72,7 @@ count-rows = record {
 -- scalars over tables of zeros: no record is live, and no class holds anything
 abbrev bare : (count off : ℕ) → (nodes pile : List ℕ) → Words
 bare count off nodes pile =
-    record { size = 0; count = count; total = 0; off = off; top = 0; leaves = []; heads = []; nodes = nodes; pile = pile }
+    record { size = 0; count = count; freeStorage = 0; freeOffset = off; usedBinsTop = 0; usedBins = []; binIndices = []; nodes = nodes; pile = pile }
 
 abbrev two : ℕ → Words
 two off = bare 2 off (replicate 16 0) (replicate 2 0)

@@ -18,13 +18,13 @@ use Rattle.tables.specs.HandBack.{BackPlan, Merged, isLive, isFree, merg
 use Rattle.tables.specs.Guards.{GrantGuards, SplitGuards, TakeGuards, MergeGuards, BackGuards, GuardsMean}
 
 -- ---- take
-module _ (w : Words) (s : ℕ) (spare : 1 ≤ w .off) where
-  spare-guards : (c r o rest m : ℕ) → c < 256 → r < w .count → o + s ≤ w .size → s ≤ w .total
+module _ (w : Words) (s : ℕ) (spare : 1 ≤ w .freeOffset) where
+  spare-guards : (c r o rest m : ℕ) → c < 256 → r < w .count → o + s ≤ w .size → s ≤ w .freeStorage
       → TakeGuards w s (planSpare w c r o rest m)
   unfolding planSpare
-  spare-guards c r o rest m h1 h2 h3 h4 = go (below? (w .off) (w .count)) (below? m (w .count))
+  spare-guards c r o rest m h1 h2 h3 h4 = go (below? (w .freeOffset) (w .count)) (below? m (w .count))
     where
-      go : Below (w .off) (w .count) → Below m (w .count) → TakeGuards w s (planSpare w c r o rest m)
+      go : Below (w .freeOffset) (w .count) → Below m (w .count) → TakeGuards w s (planSpare w c r o rest m)
       go (beyond a e) b = rw e tt
       go (below a e) (beyond b f) = rw (e, f) tt
       go (below a e) (below b f) = rw (e, f) (
@@ -34,16 +34,16 @@ module _ (w : Words) (s : ℕ) (spare : 1 ≤ w .off) where
 
   region-guards : (c r z o : ℕ) → c < 256 → r < w .count → TakeGuards w s (planRegion w s c r z o)
   unfolding planRegion
-  region-guards c r z o h1 h2 = go (below? z s) (below? (w .size) (o + z)) (below? (w .total) s) (same? z s)
+  region-guards c r z o h1 h2 = go (below? z s) (below? (w .size) (o + z)) (below? (w .freeStorage) s) (same? z s)
     where
-      go : Below z s → Below (w .size) (o + z) → Below (w .total) s → Same z s → TakeGuards w s (planRegion w s c r z o)
+      go : Below z s → Below (w .size) (o + z) → Below (w .freeStorage) s → Same z s → TakeGuards w s (planRegion w s c r z o)
       go (below x e) b t q = rw e tt
       go (beyond x e) (below b f) t q = rw (e, f) tt
       go (beyond x e) (beyond b f) (below t g) q = rw (e, f, g) tt
       go (beyond x e) (beyond b f) (beyond t g) (same q h) =
           rw (e, f, g, h) record { class-low = h1; record-low = h2; inside = omega arith; enough = t; spare = spare }
       go (beyond x e) (beyond b f) (beyond t g) (differ q h) =
-          rw (e, f, g, h) (spare-guards c r o (z - s) (getD (w .pile) (w .off) 0) h1 h2 (omega arith) t)
+          rw (e, f, g, h) (spare-guards c r o (z - s) (getD (w .pile) (w .freeOffset) 0) h1 h2 (omega arith) t)
 
   record-guards : (c r : ℕ) → c < 256 → TakeGuards w s (planRecord w s c r)
   unfolding planRecord
@@ -58,18 +58,18 @@ module _ (w : Words) (s : ℕ) (spare : 1 ≤ w .off) where
   class-guards (class-is c) = go (below? c 256)
     where
       go : Below c 256 → TakeGuards w s (planClass w s (class-is c))
-      go (below a e) = rw e (record-guards c (getD (w .heads) c 0) a)
+      go (below a e) = rw e (record-guards c (getD (w .binIndices) c 0) a)
       go (beyond a e) = rw e tt
   class-guards no-class = tt
   class-guards bad-bits = tt
 
 pub take-guards : (w : Words) (s : ℕ) → TakeGuards w s (planTake w s)
 unfolding planTake
-take-guards w s = go (same? (w .off) 0)
+take-guards w s = go (same? (w .freeOffset) 0)
   where
-    go : Same (w .off) 0 → TakeGuards w s (planTake w s)
+    go : Same (w .freeOffset) 0 → TakeGuards w s (planTake w s)
     go (same a e) = rw e tt
-    go (differ a e) = rw e (class-guards w s (omega arith) (findClass (w .leaves) (w .top) (up s)))
+    go (differ a e) = rw e (class-guards w s (omega arith) (findClass (w .usedBins) (w .usedBinsTop) (up s)))
 
 -- ---- hand back
 -- a record that is live, or free, is below the count
@@ -94,9 +94,9 @@ merged-guards : (w : Words) (r p x : ℕ) (p-free x-free : Bool) (m : Merged) �
     → BackGuards w r (planMerged w p x p-free x-free m)
 unfolding planMerged
 merged-guards w r p x p-free x-free m h1 h2 h3 =
-    go (below? (w .size) (m .length)) (below? (w .size) (m .total)) (below? (w .off + one p-free + one x-free) (w .count))
+    go (below? (w .size) (m .length)) (below? (w .size) (m .total)) (below? (w .freeOffset + one p-free + one x-free) (w .count))
   where
-    go : Below (w .size) (m .length) → Below (w .size) (m .total) → Below (w .off + one p-free + one x-free) (w .count)
+    go : Below (w .size) (m .length) → Below (w .size) (m .total) → Below (w .freeOffset + one p-free + one x-free) (w .count)
         → BackGuards w r (planMerged w p x p-free x-free m)
     go (below a e) b c = rw e tt
     go (beyond a e) (below b f) c = rw (e, f) tt

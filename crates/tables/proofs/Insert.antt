@@ -57,7 +57,7 @@ module _ (K : Bounds) (w : Words) (stacks : ℕ → List ℕ) (spare : List ℕ)
 
   -- the old top
   abbrev h : ℕ
-  h = getD (w .heads) c 0
+  h = getD (w .binIndices) c 0
 
   abbrev after : List ℕ
   after = joinNodes K m p x (insertNodes K m s o h p x (w .nodes))
@@ -124,10 +124,10 @@ module _ (K : Bounds) (w : Words) (stacks : ℕ → List ℕ) (spare : List ℕ)
         (K .none) (stacks d) (K .none) (next-kept d) (λ q g. I .bin-prev-kept q (not-m d q g) (not-h d q ne g)) (H .in-lists .lists d))
   ]
 
-  tops′ : (d : ℕ) → d < 256 → getD (set (w .heads) c m) d 0 ≡ first (stacks′ d) (K .none)
+  tops′ : (d : ℕ) → d < 256 → getD (set (w .binIndices) c m) d 0 ≡ first (stacks′ d) (K .none)
   tops′ d l = elim (same? d c) [
-    | same e _ ↦ rw (onTop-same c m stacks d e, e) (getD-set-same (w .heads) c m 0 (omega (arith, H .in-lists .heads-room, low)))
-    | differ ne _ ↦ rw (onTop-other c m stacks d ne) (getD-set-other (w .heads) c d m 0 ne ∙ H .in-lists .tops d l)
+    | same e _ ↦ rw (onTop-same c m stacks d e, e) (getD-set-same (w .binIndices) c m 0 (omega (arith, H .in-lists .heads-room, low)))
+    | differ ne _ ↦ rw (onTop-other c m stacks d ne) (getD-set-other (w .binIndices) c d m 0 ne ∙ H .in-lists .tops d l)
   ]
 
   -- ---- the bits: they stay where the class held something, and are set where it did not
@@ -137,13 +137,13 @@ module _ (K : Bounds) (w : Words) (stacks : ℕ → List ℕ) (spare : List ℕ)
   full-other : (d : ℕ) → d ≢ c → full (stacks′ d) ≡ full (stacks d)
   full-other d ne = rw (onTop-other c m stacks d ne)
 
-  bits′ : Bits (cond (ltb h (K .n)) (w .leaves) (set (w .leaves) (c / 8) (setBit (getD (w .leaves) (c / 8) 0) (c % 8))))
-      (cond (ltb h (K .n)) (w .top) (setBit (w .top) (c / 8))) stacks′
+  bits′ : Bits (cond (ltb h (K .n)) (w .usedBins) (set (w .usedBins) (c / 8) (setBit (getD (w .usedBins) (c / 8) 0) (c % 8))))
+      (cond (ltb h (K .n)) (w .usedBinsTop) (setBit (w .usedBinsTop) (c / 8))) stacks′
   bits′ = elim top-of [
     | no-first n f ↦ rw (le-ltb h (K .n) (omega (arith, H .small)))
-        (bits-filled (w .leaves) (w .top) stacks (H .in-bits) stacks′ c low full-other full-c)
+        (bits-filled (w .usedBins) (w .usedBinsTop) stacks (H .in-bits) stacks′ c low full-other full-c)
     | has-first n g ↦ rw (lt-ltb h (K .n) (in-below K w stacks spare H c h g))
-        (bits-kept (w .leaves) (w .top) stacks (H .in-bits) stacks′ (λ d. elim (same? d c) [
+        (bits-kept (w .usedBins) (w .usedBinsTop) stacks (H .in-bits) stacks′ (λ d. elim (same? d c) [
           | same e _ ↦ rw e (full-c ∙ sym (full-some (stacks c) n))
           | differ ne _ ↦ full-other d ne
         ]))
@@ -162,7 +162,7 @@ module _ (K : Bounds) (w : Words) (stacks : ℕ → List ℕ) (spare : List ℕ)
     nodes-room = rw (I .same-length) (H .nodes-room);
     held = held′;
     in-lists = record {
-      heads-room = length-set (w .heads) c m ∙ H .in-lists .heads-room;
+      heads-room = length-set (w .binIndices) c m ∙ H .in-lists .heads-room;
       class-is = class-is′;
       class-low = class-low′;
       lists = lists′;

@@ -12,7 +12,7 @@ use Rattle.ledger.specs.Calls.{Call, Take, HandBack, Reset, Ask}
 use Rattle.tables.specs.Layout.{dataSize, binPrev, binNext, neighborNext, used, word, put}
 use Rattle.tables.specs.Words.{Words, Edition, Bounds, bounds, withNodes, withTotal}
 use Rattle.tables.specs.Steps.{insertAt, insert, unlinkAt, unlink, pushPile, popPile}
-use Rattle.tables.specs.Gate.{gateOf, gated}
+use Rattle.tables.specs.Gate.{gateOf}
 use Rattle.tables.specs.Setup.{blank, fresh}
 use Rattle.tables.specs.Take.{TakePlan, whole, split, planTake, granting, splitting, doTake}
 use Rattle.tables.specs.HandBack.{BackPlan, merge, Merged, planBack, dropIf, merging, doBack}
@@ -80,7 +80,7 @@ unlinkAt-kept K w c p x = record {
   pile-beyond = λ i g. refl;
 }
 
-pushPile-kept : (n : ℕ) (w : Words) (r : ℕ) → w .off + 1 < n → KeptBeyond n w (pushPile w r)
+pushPile-kept : (n : ℕ) (w : Words) (r : ℕ) → w .freeOffset + 1 < n → KeptBeyond n w (pushPile w r)
 unfolding pushPile
 pushPile-kept n w r l = record {
   size-is = refl;
@@ -88,9 +88,9 @@ pushPile-kept n w r l = record {
   heads-length = λ e. e;
   leaves-length = λ e. e;
   nodes-length = refl;
-  pile-length = length-set (w .pile) (w .off + 1) r;
+  pile-length = length-set (w .pile) (w .freeOffset + 1) r;
   nodes-beyond = λ i h. refl;
-  pile-beyond = λ i h. getD-set-other (w .pile) (w .off + 1) i r 0 (omega arith);
+  pile-beyond = λ i h. getD-set-other (w .pile) (w .freeOffset + 1) i r 0 (omega arith);
 }
 
 popPile-kept : (n : ℕ) (w : Words) → KeptBeyond n w (popPile w)
@@ -151,17 +151,17 @@ take-written : (E : Edition) (w : Words) (s : ℕ) (p : TakePlan) → TakeGuards
 unfolding doTake
 take-written E w s (TakePlan.stop k) g = nothing-written (w .count) w
 take-written E w s (whole c r o) g =
-    total-kept (w .count) (w .total - s) (granting-kept (bounds E w) w s c r (g .record-low))
+    total-kept (w .count) (w .freeStorage - s) (granting-kept (bounds E w) w s c r (g .record-low))
 take-written E w s (split c r o rest m) g =
-    total-kept (w .count) (w .total - s) (splitting-kept (bounds E w) w s c r (g .0 .record-low) o rest m (g .1 .spare-low))
+    total-kept (w .count) (w .freeStorage - s) (splitting-kept (bounds E w) w s c r (g .0 .record-low) o rest m (g .1 .spare-low))
 
 -- ---- hand back
-drop-off : (K : Bounds) (is-free : Bool) (q : ℕ) (w : Words) → dropIf K is-free q w .off ≡ w .off + one is-free
+drop-off : (K : Bounds) (is-free : Bool) (q : ℕ) (w : Words) → dropIf K is-free q w .freeOffset ≡ w .freeOffset + one is-free
 unfolding pushPile unlink unlinkAt
 drop-off K true q w = refl
 drop-off K false q w = omega arith
 
-drop-kept : (K : Bounds) (is-free : Bool) (q : ℕ) (w : Words) → w .off + one is-free < K .n → KeptBeyond (K .n) w (dropIf K is-free q w)
+drop-kept : (K : Bounds) (is-free : Bool) (q : ℕ) (w : Words) → w .freeOffset + one is-free < K .n → KeptBeyond (K .n) w (dropIf K is-free q w)
 unfolding unlink
 drop-kept K true q w l =
     and-then (K .n) (unlinkAt-kept K w (down (word (w .nodes) dataSize q)) (word (w .nodes) binPrev q) (word (w .nodes) binNext q))
@@ -169,7 +169,7 @@ drop-kept K true q w l =
 drop-kept K false q w l = nothing-written (K .n) w
 
 merging-kept : (K : Bounds) (w : Words) (r p x : ℕ) (p-free x-free : Bool) (m : Merged) → r < K .n
-    → w .off + one p-free + one x-free < K .n → KeptBeyond (K .n) w (merging K w r p x p-free x-free m)
+    → w .freeOffset + one p-free + one x-free < K .n → KeptBeyond (K .n) w (merging K w r p x p-free x-free m)
 unfolding merging
 merging-kept K w r p x p-free x-free m r-low room =
     total-kept (K .n) (m .total)

@@ -87,10 +87,10 @@ module _ (K : Bounds) (w : Words) (xs ys : List Region) (stacks : ℕ → List �
 
   -- ---- the words
   abbrev after : List ℕ
-  after = joinNodes K m p x (insertNodes K m s o (getD (w .heads) (down s) 0) p x (w .nodes))
+  after = joinNodes K m p x (insertNodes K m s o (getD (w .binIndices) (down s) 0) p x (w .nodes))
 
-  I : Inserted K m s o (getD (w .heads) (down s) 0) p x (w .nodes) after
-  I = inserted K m s o (getD (w .heads) (down s) 0) p x (w .nodes) (G .shelf .nodes-room) m-below
+  I : Inserted K m s o (getD (w .binIndices) (down s) 0) p x (w .nodes) after
+  I = inserted K m s o (getD (w .binIndices) (down s) 0) p x (w .nodes) (G .shelf .nodes-room) m-below
 
   -- ---- the chain, joined on both sides of m
   abbrev next : ℕ → ℕ

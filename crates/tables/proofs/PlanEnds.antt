@@ -33,15 +33,15 @@ module _ (w : Words) (s : ℕ) (P : TakePlan → Type 0) (at-4 : P (TakePlan.sto
   spare-ends : (c r o rest m : ℕ) → P (planSpare w c r o rest m)
   unfolding planSpare
   spare-ends c r o rest m =
-      either P (ltb (w .off) (w .count)) (either P (ltb m (w .count)) (at-split c r o rest m) at-6) at-6
+      either P (ltb (w .freeOffset) (w .count)) (either P (ltb m (w .count)) (at-split c r o rest m) at-6) at-6
 
   region-ends : (c r z o : ℕ) → P (planRegion w s c r z o)
   unfolding planRegion
   region-ends c r z o =
       either P (ltb z s) at-6
       (either P (ltb (w .size) (o + z)) at-6
-      (either P (ltb (w .total) s) at-6
-      (either P (eqb z s) (at-whole c r o) (spare-ends c r o (z - s) (getD (w .pile) (w .off) 0)))))
+      (either P (ltb (w .freeStorage) s) at-6
+      (either P (eqb z s) (at-whole c r o) (spare-ends c r o (z - s) (getD (w .pile) (w .freeOffset) 0)))))
 
   record-ends : (c r : ℕ) → P (planRecord w s c r)
   unfolding planRecord
@@ -50,7 +50,7 @@ module _ (w : Words) (s : ℕ) (P : TakePlan → Type 0) (at-4 : P (TakePlan.sto
 
   pub class-ends : (found : Found) → P (planClass w s found)
   unfolding planClass
-  class-ends (class-is c) = either P (ltb c 256) (record-ends c (getD (w .heads) c 0)) at-6
+  class-ends (class-is c) = either P (ltb c 256) (record-ends c (getD (w .binIndices) c 0)) at-6
   class-ends no-class = at-4
   class-ends bad-bits = at-6
 
@@ -58,7 +58,7 @@ pub take-ends : (w : Words) (s : ℕ) (P : TakePlan → Type 0) → P (TakePlan.
     → ((c r o : ℕ) → P (whole c r o)) → ((c r o rest m : ℕ) → P (split c r o rest m)) → P (planTake w s)
 unfolding planTake
 take-ends w s P at-3 at-4 at-6 at-whole at-split =
-    either P (eqb (w .off) 0) at-3 (class-ends w s P at-4 at-6 at-whole at-split (findClass (w .leaves) (w .top) (up s)))
+    either P (eqb (w .freeOffset) 0) at-3 (class-ends w s P at-4 at-6 at-whole at-split (findClass (w .usedBins) (w .usedBinsTop) (up s)))
 
 -- ---- hand back
 -- of a live record, it does not stop with 5
@@ -69,7 +69,7 @@ module _ (w : Words) (r : ℕ) (P : BackPlan → Type 0) (at-6 : P (BackPlan.sto
   merged-ends p x p-free x-free m =
       either P (ltb (w .size) (m .length)) at-6
       (either P (ltb (w .size) (m .total)) at-6
-      (either P (ltb (w .off + one p-free + one x-free) (w .count)) (at-merge p x p-free x-free m) at-6))
+      (either P (ltb (w .freeOffset + one p-free + one x-free) (w .count)) (at-merge p x p-free x-free m) at-6))
 
   pub neighbours-ends : (p x : ℕ) → P (planNeighbours w r p x)
   unfolding planNeighbours planSides

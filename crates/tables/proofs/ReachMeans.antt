@@ -1,9 +1,8 @@
 -- Which words KeptBeyond, Agree and LeftAlone cover, up to the last. Assumes nothing.
 use mathlib.Core.Path.{_≡_, refl}
 use mathlib.Core.Logic.{_⊎_, inl, inr}
-use Prim.Native.Nat.{ℕ, _%_, _≤_, _<_}
+use Prim.Native.Nat.{ℕ, _%_, _≤_}
 use native.Mathlib.Omega.{arith}
-use lib.ListN.{length}
 use Rattle.basics.proofs.Decided.{Same, same, differ, same?, Below, below, beyond, below?}
 use Rattle.basics.proofs.Lists.{same-beyond, read-alike}
 use Rattle.tables.specs.Layout.{used, nodesNeeded, pileNeeded}

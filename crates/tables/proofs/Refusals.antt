@@ -2,7 +2,7 @@
 -- hand-back and a size query 5; and which numbers a call can give at all: on any words. Assumes nothing.
 use mathlib.Core.Path.{_≡_, refl, sym, ap, subst, _∙_}
 use mathlib.Core.Bool.{true, false, cond}
-use mathlib.Core.Logic.{_↔_, _⊎_, inl, inr, _≢_}
+use mathlib.Core.Logic.{_↔_, inl, inr, _≢_}
 use mathlib.Core.List.{List, [], _∷_}
 use Prim.Native.Nat.{ℕ, suc, _+_, _*_, _<_, _≤_}
 use native.Mathlib.Omega.{arith}
@@ -25,7 +25,7 @@ use Rattle.tables.specs.Room.{Room}
 use Rattle.tables.specs.Claims.{BadCount, TooShort, TooLarge, OneOf, mayGive, NotLive, mayGiveBehind, mayTell}
 use Rattle.tables.proofs.Gate.{bad-count, too-short, open-gate, gated?, room-not-bad, room-not-short, short-not-bad, call-open}
 use Rattle.tables.proofs.Gate.{large-not-bad, sizes-pass, SetupCase, count-bad, too-large, table-short, accepted, setup-case, room-opens, gated-open, gated-shut, call-shut}
-use Rattle.tables.proofs.PlanEnds.{either, gated-ends, class-ends, take-ends, neighbours-ends, back-ends}
+use Rattle.tables.proofs.PlanEnds.{either, class-ends, take-ends, neighbours-ends, back-ends}
 
 -- ---- the gate's two refusals
 module _ (E : Edition) (bad count nodes pile : ℕ) where
@@ -201,16 +201,16 @@ module _ (E : Edition) (w : Words) where
   report-gives : Gives (6 ∷ []) (reportOf w)
   unfolding reportOf reportTop reportLeaf reportClass
   report-gives =
-      either (Gives (6 ∷ [])) (eqb (w .off) 0) tt
-      (either (Gives (6 ∷ [])) (eqb (w .top) 0) tt
+      either (Gives (6 ∷ [])) (eqb (w .freeOffset) 0) tt
+      (either (Gives (6 ∷ [])) (eqb (w .usedBinsTop) 0) tt
       (either (Gives (6 ∷ [])) (eqb m 0) (inl refl)
       (either (Gives (6 ∷ [])) (ltb (8 * t + highBit m) classesInUse) tt (inl refl))))
     where
       t : ℕ
-      t = highBit (w .top)
+      t = highBit (w .usedBinsTop)
 
       m : ℕ
-      m = getD (w .leaves) t 0
+      m = getD (w .usedBins) t 0
 
   full-gives : (l : Counts) → Gives (6 ∷ []) (fullAnswer l)
   unfolding fullAnswer
@@ -279,23 +279,23 @@ not-5 : OneOf (6 ∷ []) 5 → ⊥
 not-5 (inl e) = omega arith
 not-5 (inr e) = e
 
-spare-told : (E : Edition) (w : Words) (s : ℕ) → Same (w .off) 0 → doTake E w s (planTake w s) .0 ≡ refused 3 → w .off ≡ 0
+spare-told : (E : Edition) (w : Words) (s : ℕ) → Same (w .freeOffset) 0 → doTake E w s (planTake w s) .0 ≡ refused 3 → w .freeOffset ≡ 0
 unfolding planTake
 spare-told E w s (same e t) a = e
 spare-told E w s (differ e t) a =
-    absurd (not-3 (given (4 ∷ 6 ∷ []) _ 3 (class-gives E w s (findClass (w .leaves) (w .top) (up s))) (rw t at a)))
+    absurd (not-3 (given (4 ∷ 6 ∷ []) _ 3 (class-gives E w s (findClass (w .usedBins) (w .usedBinsTop) (up s))) (rw t at a)))
 
-spare-gives : (E : Edition) (w : Words) (s : ℕ) → Same (w .off) 0 → w .off ≡ 0 → doTake E w s (planTake w s) .0 ≡ refused 3
+spare-gives : (E : Edition) (w : Words) (s : ℕ) → Same (w .freeOffset) 0 → w .freeOffset ≡ 0 → doTake E w s (planTake w s) .0 ≡ refused 3
 unfolding planTake doTake
 spare-gives E w s (same e t) h = rw t refl
 spare-gives E w s (differ e t) h = absurd (e h)
 
 pub take-3 : (E : Edition) (w : Words) (asked : Request) → Room E (w .count) (length (w .nodes)) (length (w .pile))
-    → (answerWords E (Take asked) w .0 ≡ refused 3) ↔ (w .off ≡ 0)
+    → (answerWords E (Take asked) w .0 ≡ refused 3) ↔ (w .freeOffset ≡ 0)
 unfolding behind
 take-3 E w asked room =
     rw (call-open E (Take asked) w room)
-    (spare-told E w (asked .size) (same? (w .off) 0), spare-gives E w (asked .size) (same? (w .off) 0))
+    (spare-told E w (asked .size) (same? (w .freeOffset) 0), spare-gives E w (asked .size) (same? (w .freeOffset) 0))
 
 -- the test of a live record is what it says
 data Lives (w : Words) (r : ℕ) : Type 0 where

@@ -148,11 +148,11 @@ module _ (K : Bounds) (w : Words) (stacks : ℕ → List ℕ) (spare : List ℕ)
   p-none e = le-ltb p (K .n) (omega (arith, H .small))
 
   abbrev heads′ : List ℕ
-  heads′ = cond (ltb p (K .n)) (w .heads) (set (w .heads) c x)
+  heads′ = cond (ltb p (K .n)) (w .binIndices) (set (w .binIndices) c x)
 
   heads-room′ : length heads′ ≡ 256
   heads-room′ = elim p-of [
-    | no-last n z ↦ rw (p-none z) (length-set (w .heads) c x ∙ H .in-lists .heads-room)
+    | no-last n z ↦ rw (p-none z) (length-set (w .binIndices) c x ∙ H .in-lists .heads-room)
     | has-last n g ↦ rw (p-some g) (H .in-lists .heads-room)
   ]
 
@@ -161,8 +161,8 @@ module _ (K : Bounds) (w : Words) (stacks : ℕ → List ℕ) (spare : List ℕ)
     where
       go : LastOf (K .none) xs p → Same d c → getD heads′ d 0 ≡ first (stacks′ d) (K .none)
       go (no-last n z) (same e _) = rw (p-none z, without-c d e, e, n)
-          (getD-set-same (w .heads) c x 0 (omega (arith, H .in-lists .heads-room, low)) ∙ x-is)
-      go (no-last n z) (differ ne _) = rw (p-none z, without-other d ne) (getD-set-other (w .heads) c d x 0 ne ∙ H .in-lists .tops d l)
+          (getD-set-same (w .binIndices) c x 0 (omega (arith, H .in-lists .heads-room, low)) ∙ x-is)
+      go (no-last n z) (differ ne _) = rw (p-none z, without-other d ne) (getD-set-other (w .binIndices) c d x 0 ne ∙ H .in-lists .tops d l)
       go (has-last n g) (same e _) = rw (p-some g, without-c d e, e)
           (H .in-lists .tops c low
           ∙ ap (λ (l : List ℕ). first l (K .none)) split-is
@@ -178,20 +178,20 @@ module _ (K : Bounds) (w : Words) (stacks : ℕ → List ℕ) (spare : List ℕ)
   full-other : (d : ℕ) → d ≢ c → full (stacks′ d) ≡ full (stacks d)
   full-other d ne = rw (without-other d ne)
 
-  kept : 1 ≤ length xs + length ys → Bits (w .leaves) (w .top) stacks′
-  kept some = bits-kept (w .leaves) (w .top) stacks (H .in-bits) stacks′ (λ d. elim (same? d c) [
+  kept : 1 ≤ length xs + length ys → Bits (w .usedBins) (w .usedBinsTop) stacks′
+  kept some = bits-kept (w .usedBins) (w .usedBinsTop) stacks (H .in-bits) stacks′ (λ d. elim (same? d c) [
     | same e _ ↦ rw (without-c d e, e) (full-some (xs ++ ys) (omega (arith, length-append xs ys)) ∙ sym full-c)
     | differ ne _ ↦ full-other d ne
   ])
 
   abbrev cleared : ℕ
-  cleared = clearBit 8 (getD (w .leaves) (c / 8) 0) (c % 8)
+  cleared = clearBit 8 (getD (w .usedBins) (c / 8) 0) (c % 8)
 
   -- as unlinkAt leaves them
   abbrev BitsAfter : Type 0
   BitsAfter =
-      Bits (cond (ltb p (K .n)) (w .leaves) (cond (ltb x (K .n)) (w .leaves) (set (w .leaves) (c / 8) cleared)))
-      (cond (ltb p (K .n)) (w .top) (cond (ltb x (K .n)) (w .top) (cond (eqb cleared 0) (clearBit 32 (w .top) (c / 8)) (w .top))))
+      Bits (cond (ltb p (K .n)) (w .usedBins) (cond (ltb x (K .n)) (w .usedBins) (set (w .usedBins) (c / 8) cleared)))
+      (cond (ltb p (K .n)) (w .usedBinsTop) (cond (ltb x (K .n)) (w .usedBinsTop) (cond (eqb cleared 0) (clearBit 32 (w .usedBinsTop) (c / 8)) (w .usedBinsTop))))
       stacks′
 
   bits′ : BitsAfter
@@ -201,7 +201,7 @@ module _ (K : Bounds) (w : Words) (stacks : ℕ → List ℕ) (spare : List ℕ)
       go (has-last n g) k = rw (p-some g) (kept (omega arith))
       go (no-last n z) (has-first k g) = rw (p-none z, lt-ltb x (K .n) (in-below K w stacks spare H c x (ys-in x g))) (kept (omega arith))
       go (no-last n z) (no-first k y) = rw (p-none z, le-ltb x (K .n) (omega (arith, H .small)))
-          (bits-emptied (w .leaves) (w .top) stacks (H .in-bits) stacks′ c low full-other full-c (rw (without-c c refl, n, k)))
+          (bits-emptied (w .usedBins) (w .usedBinsTop) stacks (H .in-bits) stacks′ c low full-other full-c (rw (without-c c refl, n, k)))
 
   -- ---- the record now stands in no list and not on the pile
   pub unlinkAt-held : Held (K .n) (without c r stacks) (r ∷ spare)

@@ -19,13 +19,13 @@ use Rattle.tables.specs.Search.{highBit}
 use Rattle.tables.specs.Questions.{reportClass, reportLeaf, reportTop, reportOf}
 use Rattle.tables.specs.Sound.{Sound}
 use Rattle.tables.specs.Claims.{Holds}
-use Rattle.tables.proofs.SoundOf.{passes, high-empty, shelf-of}
+use Rattle.tables.proofs.SoundOf.{high-empty, shelf-of}
 use Rattle.tables.proofs.Search.{top-byte, top-none, top-some}
 
 module _ (E : Edition) (w : Words) (l : Ledger Stacks) (S : Sound E w l) where
   -- the highest class that the words find is the ledger's
   abbrev topClass : ℕ
-  topClass = 8 * highBit (w .top) + highBit (getD (w .leaves) (highBit (w .top)) 0)
+  topClass = 8 * highBit (w .usedBinsTop) + highBit (getD (w .usedBins) (highBit (w .usedBinsTop)) 0)
 
   in-use : (c : ℕ) → Holds l c → c < classesInUse
   in-use c h = elim (below? c classesInUse) [ below k e ↦ k | beyond k e ↦ absurd (h (high-empty E w l S c k)) ]
@@ -54,33 +54,33 @@ module _ (E : Edition) (w : Words) (l : Ledger Stacks) (S : Sound E w l) where
 
   -- the words' report, by what the bits say
   pub report-is : reportOf w ≡ reported (report by-class l .0) (report by-class l .1)
-  report-is = go (same? (w .off) 0) (same? (w .top) 0)
+  report-is = go (same? (w .freeOffset) 0) (same? (w .usedBinsTop) 0)
     where
       shown : ℕ × ℕ → Answer
       shown x = reported (x .0) (x .1)
 
-      more : w .off ≢ 0 → report by-class l ≡ (tally freeLen (l .line), highest (l .index) classesInUse)
+      more : w .freeOffset ≢ 0 → report by-class l ≡ (tally freeLen (l .line), highest (l .index) classesInUse)
       more d = report-more (omega (arith, S .spare .spares))
 
-      go : Same (w .off) 0 → Same (w .top) 0 → reportOf w ≡ shown (report by-class l)
+      go : Same (w .freeOffset) 0 → Same (w .usedBinsTop) 0 → reportOf w ≡ shown (report by-class l)
       go (same z e) k =
           let read : reportOf w ≡ reported 0 0 = unfold reportOf in rw e in
           read ∙ sym (ap shown (report-one-spare by-class class-laws l (omega (arith, S .spare .spares))))
       go (differ z e) (same t q) =
-          let read : reportOf w ≡ reported (w .total) 0 = unfold reportOf in rw (e, q) in
+          let read : reportOf w ≡ reported (w .freeStorage) 0 = unfold reportOf in rw (e, q) in
           read ∙ ap₂ reported (S .total) (sym (highest-none (top-none E w l S t))) ∙ sym (ap shown (more z))
       go (differ z e) (differ t q) = read ∙ ap₂ reported (S .total) (sym (highest-of topClass best)) ∙ sym (ap shown (more z))
         where
           best : Greatest (λ d. Holds l d) topClass
           best = top-some E w l S (omega arith)
 
-          not-zero : getD (w .leaves) (highBit (w .top)) 0 ≢ 0
-          not-zero = top-byte (w .leaves) (w .top) (l .index) (shelf-of E w l S .in-bits) (omega arith)
+          not-zero : getD (w .usedBins) (highBit (w .usedBinsTop)) 0 ≢ 0
+          not-zero = top-byte (w .usedBins) (w .usedBinsTop) (l .index) (shelf-of E w l S .in-bits) (omega arith)
 
-          read : reportOf w ≡ reported (w .total) (value topClass)
+          read : reportOf w ≡ reported (w .freeStorage) (value topClass)
           read = unfold reportOf reportTop reportLeaf reportClass in rw (
             e,
             q,
-            ne-eqb (getD (w .leaves) (highBit (w .top)) 0) 0 not-zero,
+            ne-eqb (getD (w .usedBins) (highBit (w .usedBinsTop)) 0) 0 not-zero,
             lt-ltb topClass classesInUse (in-use topClass (best .0)),
           )

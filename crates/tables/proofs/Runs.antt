@@ -1,10 +1,10 @@
 -- Every call on sound words answers as the ledger, and so do runs of calls: demands 2 and 3. Assumes nothing.
 use mathlib.Core.Path.{_≡_, refl, ap, ap₂, sym, _∙_, subst}
-use mathlib.Core.List.{List, [], _∷_, map}
-use Prim.Native.Nat.{ℕ, _^_, _≤_, _<_}
+use mathlib.Core.List.{List, [], _∷_}
+use Prim.Native.Nat.{ℕ, _≤_, _<_}
 use native.Mathlib.Omega.{arith}
 use Rattle.ledger.specs.Ledger.{Ledger, Answer, done, refused, setup, by-class, Stacks}
-use Rattle.ledger.specs.Calls.{Question, SizeOf, Report, FullReport, Call, Take, HandBack, Reset, Ask, Event, event, callOf, answerOf, told, answer, end, answers, log}
+use Rattle.ledger.specs.Calls.{Question, SizeOf, Report, FullReport, Call, Take, HandBack, Reset, Ask, Event, event, told, answer, end, answers, log}
 use Rattle.ledger.specs.WellFormed.{WellFormed}
 use Rattle.ledger.specs.Stretch.{Stretch}
 use Rattle.ledger.specs.Claims.{CanRefuse, too-few-spares, none-reaches, not-live, unknown}

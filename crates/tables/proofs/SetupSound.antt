@@ -1,7 +1,7 @@
 -- Setup and reset: whatever the words held, what they leave is sound and stands for the ledger's setup. Assumes nothing.
 use mathlib.Core.Path.{_≡_, refl, ap, sym, _∙_, subst}
 use mathlib.Core.List.{List, [], _∷_}
-use Prim.Native.Nat.{ℕ, suc, _+_, _-_, _^_, _<_, _≤_}
+use Prim.Native.Nat.{ℕ, suc, _+_, _-_, _≤_}
 use native.Mathlib.Omega.{arith}
 use lib.Dec.{ltb}
 use lib.ListN.{length, getD, replicate, length-replicate, getD-replicate}
@@ -15,13 +15,12 @@ use Rattle.ledger.proofs.CallsWell.{setup-well}
 use Rattle.ledger.proofs.ByClass.{class-laws}
 use Rattle.tables.specs.Words.{Words, Edition, Bounds}
 use Rattle.tables.specs.Steps.{insertAt, insert, popPile}
-use Rattle.tables.specs.Gate.{gateOf}
 use Rattle.tables.specs.Setup.{Lent, piled, blank, fresh, setupWords}
 use Rattle.tables.specs.Calls.{behind, answerWords}
 use Rattle.tables.specs.Linked.{stackOf, mask, nonZero}
 use Rattle.tables.specs.Sound.{Sound}
 use Rattle.tables.specs.Room.{Room}
-use Rattle.tables.proofs.Gate.{room-opens, gated-open, call-open}
+use Rattle.tables.proofs.Gate.{call-open}
 use Rattle.tables.proofs.Masks.{mask-same, nonZero-zero}
 use Rattle.tables.proofs.Shelf.{Shelf}
 use Rattle.tables.proofs.Steps.{pop-shelf}

@@ -3,16 +3,15 @@
 use mathlib.Core.Path.{_≡_, refl, sym, ap, subst, _∙_}
 use mathlib.Core.Logic.{inl, inr}
 use mathlib.Core.List.{List, [], _∷_}
-use Prim.Native.Nat.{ℕ, zero, suc, _+_, _*_, _-_, _/_, _%_, _^_, _<_}
+use Prim.Native.Nat.{ℕ, zero, suc, _+_, _*_, _-_, _/_, _%_, _<_}
 use native.Mathlib.Omega.{arith}
-use lib.Dec.{eqb, ltb}
 use lib.ListN.{getD}
 use borrow.Author.Tests.{lt-ltb, ne-eqb}
-use Rattle.basics.specs.Sum.{one, is, tally}
+use Rattle.basics.specs.Sum.{one}
 use Rattle.basics.proofs.Decided.{Same, same, differ, same?, eqb-same}
 use Rattle.small_float.specs.Class.{down}
 use Rattle.ledger.specs.Ledger.{Answer, setup, by-class, onTop, done}
-use Rattle.tables.specs.Layout.{dataOffset, dataSize, binPrev, binNext, neighborPrev, neighborNext, used, word, nodesNeeded}
+use Rattle.tables.specs.Layout.{binPrev, binNext, used, word, nodesNeeded}
 use Rattle.tables.specs.Words.{Words, Edition}
 use Rattle.tables.specs.Steps.{insert, insertAt, popPile}
 use Rattle.tables.specs.Setup.{Lent, blank, fresh, setupWords}

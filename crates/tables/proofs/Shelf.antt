@@ -35,9 +35,9 @@ pub record Shelf (K : Bounds) (w : Words) (stacks : ℕ → List ℕ) (spare : L
   pub small : K .n ≤ K .none
   pub nodes-room : nodesNeeded (K .n) ≤ length (w .nodes)
   pub held : Held (K .n) stacks spare
-  pub in-lists : Listed (K .none) (w .nodes) (w .heads) stacks
-  pub on-pile : SparesStand (K .n) (w .off) (w .pile) spare
-  pub in-bits : Bits (w .leaves) (w .top) stacks
+  pub in-lists : Listed (K .none) (w .nodes) (w .binIndices) stacks
+  pub on-pile : SparesStand (K .n) (w .freeOffset) (w .pile) spare
+  pub in-bits : Bits (w .usedBins) (w .usedBinsTop) stacks
 
 -- ---- what a shelf says of the records on it
 module _ (K : Bounds) (w : Words) (stacks : ℕ → List ℕ) (spare : List ℕ) (H : Shelf K w stacks spare) where

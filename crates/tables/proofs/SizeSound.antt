@@ -14,14 +14,12 @@ use Rattle.ledger.specs.Claims.{Live}
 use Rattle.ledger.proofs.Places.{Between, sum-at, between-at}
 use Rattle.ledger.proofs.Find.{Found, missing, at, found?}
 use Rattle.ledger.proofs.Cases.{LiveCase, is-live, not-live, live-case}
-use Rattle.ledger.proofs.ByClass.{class-laws}
 use Rattle.tables.specs.Layout.{dataSize, used, word}
 use Rattle.tables.specs.Words.{Words, Edition}
 use Rattle.tables.specs.HandBack.{isLive}
 use Rattle.tables.specs.Questions.{lengthOf}
 use Rattle.tables.specs.Sound.{Sound}
 use Rattle.tables.proofs.Lines.{reads-at}
-use Rattle.tables.proofs.SoundOf.{passes}
 
 module _ (E : Edition) (w : Words) (l : Ledger Stacks) (S : Sound E w l) (r : ℕ) where
   -- ---- a record that is not live: it is spare, or free, or no record

@@ -1,7 +1,7 @@
 -- Sound words, seen as a shelf and a standing line, and made again from these. Assumes nothing.
 use mathlib.Core.Path.{_≡_, refl, ap, _∙_}
 use mathlib.Core.List.{List, [], _∷_}
-use Prim.Native.Nat.{ℕ, _^_, _≤_, _<_}
+use Prim.Native.Nat.{ℕ, _≤_, _<_}
 use native.Mathlib.Omega.{arith}
 use lib.ListN.{length}
 use Rattle.basics.specs.Sum.{is, tally}
@@ -9,17 +9,15 @@ use Rattle.basics.proofs.Sums.{tally-le, held-first}
 use Rattle.basics.proofs.Counts.{In}
 use Rattle.small_float.specs.Class.{down, classesInUse}
 use Rattle.small_float.proofs.Rounding.{down-most}
-use Rattle.ledger.specs.Ledger.{Ledger, len, freeLen, Answer, stands, by-class, Stacks}
+use Rattle.ledger.specs.Ledger.{Ledger, len, freeLen, stands, by-class, Stacks}
 use Rattle.ledger.specs.WellFormed.{WellFormed, has}
 use Rattle.ledger.proofs.Places.{sum-at}
 use Rattle.ledger.proofs.KeptStacks.{stands-le}
 use Rattle.ledger.proofs.ClassCases.{free-of}
 use Rattle.tables.specs.Layout.{dataSize, word}
 use Rattle.tables.specs.Words.{Words, Edition, bounds, withTotal}
-use Rattle.tables.specs.Gate.{gateOf, gated}
 use Rattle.tables.specs.Sound.{Sound}
 use Rattle.tables.specs.Room.{Room}
-use Rattle.tables.proofs.Gate.{room-opens, gated-open}
 use Rattle.tables.proofs.Lines.{reads-at}
 use Rattle.tables.proofs.Shelf.{Shelf}
 use Rattle.tables.proofs.Place.{Standing}
@@ -27,11 +25,6 @@ use Rattle.tables.proofs.Place.{Standing}
 module _ (E : Edition) (w : Words) (l : Ledger Stacks) (S : Sound E w l) where
   pub room-of : Room E (w .count) (length (w .nodes)) (length (w .pile))
   room-of = S .room .tables
-
-  -- so the gate is open
-  pub passes : (o : Answer × Words) → gated (gateOf E w) w o ≡ o
-  unfolding gateOf
-  passes o = gated-open (gateOf E w) w o (room-opens E 6 (w .count) (length (w .nodes)) (length (w .pile)) room-of)
 
   pub count-none : w .count ≤ E .none
   count-none = omega (arith, S .room .tables .count-high, E .small)

@@ -34,7 +34,7 @@ push-shelf K w stacks spare r nowhere H = record {
   nodes-room = H .nodes-room;
   held = nowhere;
   in-lists = H .in-lists;
-  on-pile = pushed (K .n) (w .off) (w .pile) spare r room (H .on-pile);
+  on-pile = pushed (K .n) (w .freeOffset) (w .pile) spare r room (H .on-pile);
   in-bits = H .in-bits;
 }
   where
@@ -51,7 +51,7 @@ pop-shelf K w stacks m spare more H = record {
   nodes-room = H .nodes-room;
   held = λ c q. omega (arith, H .held c q);
   in-lists = H .in-lists;
-  on-pile = popped (K .n) (w .off) (w .pile) spare m more (H .on-pile);
+  on-pile = popped (K .n) (w .freeOffset) (w .pile) spare m more (H .on-pile);
   in-bits = H .in-bits;
 }
 

@@ -33,13 +33,13 @@ use Rattle.tables.specs.Claims.{Holds}
 use Rattle.tables.proofs.Lines.{reads-at}
 use Rattle.tables.proofs.Spares.{SparesStand, next-spare}
 use Rattle.tables.proofs.Place.{Standing}
-use Rattle.tables.proofs.SoundOf.{passes, stacks-inside, high-empty, shelf-of, standing, sound-from}
+use Rattle.tables.proofs.SoundOf.{stacks-inside, high-empty, shelf-of, standing, sound-from}
 use Rattle.tables.proofs.Search.{search-finds}
 use Rattle.tables.proofs.Grant.{whole-standing, split-standing}
 
 module _ (E : Edition) (w : Words) (l : Ledger Stacks) (S : Sound E w l) (s : ℕ) where
   abbrev found : Found
-  found = findClass (w .leaves) (w .top) (up s)
+  found = findClass (w .usedBins) (w .usedBinsTop) (up s)
 
   -- ---- the class that is found
   none-found : ((c : ℕ) → up s ≤ c → c < classesInUse → l .index c ≡ []) → found ≡ no-class
@@ -113,27 +113,27 @@ module _ (E : Edition) (w : Words) (l : Ledger Stacks) (S : Sound E w l) (s : �
     m-below : m < w .count
     m-below = one-below m (w .count) (omega (arith, S .well .lined .once m, ap (tally (is m)) pile-is, is-own m))
 
-    off-below : w .off < w .count
+    off-below : w .freeOffset < w .count
     off-below = omega (arith, S .spare .spares, all-records (S .well .lined), S .well .lined .some-region)
 
     in-store : o + n ≤ w .size
     in-store = omega (arith, S .well .lined .cover, sum-at (t .place) len)
 
-    in-total : n ≤ w .total
+    in-total : n ≤ w .freeStorage
     in-total = omega (arith, S .total, sum-at (t .place) freeLen)
 
-    head-is : getD (w .heads) (down n) 0 ≡ r
+    head-is : getD (w .binIndices) (down n) 0 ≡ r
     head-is = S .lists .tops (down n) (omega (arith, t .in-use)) ∙ ap (λ (xs : List ℕ). first xs (E .none)) (t .on-top)
 
-    spare-is : getD (w .pile) (w .off) 0 ≡ m
-    spare-is = next-spare (w .count) (w .off) (w .pile) rest m
-        (subst (SparesStand (w .count) (w .off) (w .pile)) pile-is (shelf-of E w l S .on-pile))
+    spare-is : getD (w .pile) (w .freeOffset) 0 ≡ m
+    spare-is = next-spare (w .count) (w .freeOffset) (w .pile) rest m
+        (subst (SparesStand (w .count) (w .freeOffset) (w .pile)) pile-is (shelf-of E w l S .on-pile))
 
     -- ---- so the plan is
     plan-is : planTake w s ≡ cond (eqb n s) (whole (down n) r o) (split (down n) r o (n - s) m)
     unfolding planTake planClass planRecord planRegion planSpare
     plan-is = rw (
-      ne-eqb (w .off) 0 (omega (arith, S .spare .spares, t .two-spare)),
+      ne-eqb (w .freeOffset) 0 (omega (arith, S .spare .spares, t .two-spare)),
       class-found (down n) r (t .under) (t .reaching) (t .on-top) (t .none-lower),
       lt-ltb (down n) 256 (omega (arith, t .in-use)),
       head-is,
@@ -142,8 +142,8 @@ module _ (E : Edition) (w : Words) (l : Ledger Stacks) (S : Sound E w l) (s : �
       offset-is,
       le-ltb n s (t .long-enough),
       le-ltb (w .size) (o + n) in-store,
-      le-ltb (w .total) s (omega (arith, t .long-enough, in-total)),
-      lt-ltb (w .off) (w .count) off-below,
+      le-ltb (w .freeStorage) s (omega (arith, t .long-enough, in-total)),
+      lt-ltb (w .freeOffset) (w .count) off-below,
       spare-is,
       lt-ltb m (w .count) m-below,
     )
@@ -156,18 +156,18 @@ module _ (E : Edition) (w : Words) (l : Ledger Stacks) (S : Sound E w l) (s : �
     next-well = subst (λ (x : Answer × Ledger Stacks). WellFormed by-class (w .size) (w .count) (x .1)) (t .outcome)
         (take-well by-class class-laws (w .size) (w .count) s l (S .well))
 
-    whole-sound : n - s ≡ 0 → Sound E (withTotal (granting (bounds E w) w s (down n) r) (w .total - s)) (next 0)
+    whole-sound : n - s ≡ 0 → Sound E (withTotal (granting (bounds E w) w s (down n) r) (w .freeStorage - s)) (next 0)
     unfolding cut
-    whole-sound e = sound-from E (granting (bounds E w) w s (down n) r) (w .total - s) (next 0) (w .size) (w .count)
+    whole-sound e = sound-from E (granting (bounds E w) w s (down n) r) (w .freeStorage - s) (next 0) (w .size) (w .count)
         (unfold granting unlinkAt in refl) (unfold granting unlinkAt in refl) (S .room .tables .count-low) (S .room .tables .count-high) (S .room .of-head .size-fits) (rw e at next-well)
         (rw (reverseAux-eq (t .before) (live s r ∷ t .after))
         (whole-standing (bounds E w) w xs (t .after) n r s (l .index) (l .pile) (t .under) st (t .on-top) inside (omega (arith, t .long-enough))))
         (omega (arith, S .total, sum-at (t .place) freeLen, tally-reverseAux freeLen (t .before) (live s r ∷ t .after), t .long-enough))
 
     split-sound : (k : ℕ) → n - s ≡ suc k
-        → Sound E (withTotal (splitting (bounds E w) w s (down n) r o (n - s) m) (w .total - s)) (next (suc k))
+        → Sound E (withTotal (splitting (bounds E w) w s (down n) r o (n - s) m) (w .freeStorage - s)) (next (suc k))
     unfolding cut
-    split-sound k e = rw e (sound-from E (splitting (bounds E w) w s (down n) r o (suc k) m) (w .total - s) (next (suc k)) (w .size) (w .count)
+    split-sound k e = rw e (sound-from E (splitting (bounds E w) w s (down n) r o (suc k) m) (w .freeStorage - s) (next (suc k)) (w .size) (w .count)
         (unfold splitting insert insertAt popPile granting unlinkAt in refl) (unfold splitting insert insertAt popPile granting unlinkAt in refl)
         (S .room .tables .count-low) (S .room .tables .count-high) (S .room .of-head .size-fits) (rw e at next-well)
         (rw (reverseAux-eq (t .before) (live s r ∷ free (suc k) m ∷ t .after), ← (append-snoc xs (live s r) (free (suc k) m ∷ t .after)))
@@ -198,7 +198,7 @@ module _ (E : Edition) (w : Words) (l : Ledger Stacks) (S : Sound E w l) (s : �
       refusal k p e = unfold doTake in rw (p, e) (refl, S)
 
       go : TakeCase s l → (doTake E w s (planTake w s) .0 ≡ take by-class s l .0) × Sound E (doTake E w s (planTake w s) .1) (take by-class s l .1)
-      go (few-spares h e) = refusal 3 (unfold planTake in rw (eq-eqb (w .off) 0 (omega (arith, S .spare .spares)))) e
+      go (few-spares h e) = refusal 3 (unfold planTake in rw (eq-eqb (w .freeOffset) 0 (omega (arith, S .spare .spares)))) e
       go (no-region h empty e) =
-          refusal 4 (unfold planTake planClass in rw (ne-eqb (w .off) 0 (omega (arith, S .spare .spares)), none-found empty)) e
+          refusal 4 (unfold planTake planClass in rw (ne-eqb (w .freeOffset) 0 (omega (arith, S .spare .spares)), none-found empty)) e
       go (serves t) = served t

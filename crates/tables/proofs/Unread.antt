@@ -15,7 +15,6 @@ use Rattle.ledger.specs.Calls.{Question, SizeOf, Report, FullReport, Call, Take
 use Rattle.tables.specs.Layout.{dataOffset, dataSize, binNext, neighborPrev, neighborNext, used, word, nodesNeeded, pileNeeded}
 use Rattle.tables.specs.Words.{Words, Edition, Bounds, bounds, withTables}
 use Rattle.tables.specs.Steps.{popPile}
-use Rattle.tables.specs.Gate.{gateOf, gated}
 use Rattle.tables.specs.Setup.{Lent, blank, fresh, setupWords}
 use Rattle.tables.specs.Search.{Found, class-is, no-class, bad-bits, findClass}
 use Rattle.tables.specs.Take.{TakePlan, whole, split, planSpare, planRegion, planRecord, planClass, planTake, granting, splitting, doTake}
@@ -25,7 +24,7 @@ use Rattle.tables.specs.Calls.{toldBy, behind, answerWords}
 use Rattle.tables.specs.Room.{Room}
 use Rattle.tables.specs.Reach.{AgreeOn, Agree}
 use Rattle.tables.specs.Guards.{TakeGuards, BackGuards}
-use Rattle.tables.proofs.Gate.{room-opens-gate, gated-open, call-open}
+use Rattle.tables.proofs.Gate.{call-open}
 use Rattle.tables.proofs.Refusals.{setup-opens}
 use Rattle.tables.proofs.Guards.{take-guards, back-guards, live-low, free-low}
 use Rattle.tables.proofs.Agreeing.{word-agree, tables-agree, by-tables, insert-agree, unlinkAt-agree, drop-agree}
@@ -47,15 +46,15 @@ module _ (w : Words) (nodes pile : List ℕ) (N : AgreeOn (nodesNeeded (w .count
   -- ---- take: one plan
   region-same : (s c r z o : ℕ) → planRegion w s c r z o ≡ planRegion v s c r z o
   unfolding planRegion planSpare
-  region-same s c r z o = elim (below? (w .off) (w .count)) [
-    | below l e ↦ ap (λ (m : ℕ). planned (planSpare w c r o (z - s) m)) (P .same (w .off) l)
+  region-same s c r z o = elim (below? (w .freeOffset) (w .count)) [
+    | below l e ↦ ap (λ (m : ℕ). planned (planSpare w c r o (z - s) m)) (P .same (w .freeOffset) l)
     | beyond l e ↦ rw e refl
   ]
     where
       planned : TakePlan → TakePlan
       planned p =
           cond (ltb z s) (TakePlan.stop 6)
-          (cond (ltb (w .size) (o + z)) (TakePlan.stop 6) (cond (ltb (w .total) s) (TakePlan.stop 6) (cond (eqb z s) (whole c r o) p)))
+          (cond (ltb (w .size) (o + z)) (TakePlan.stop 6) (cond (ltb (w .freeStorage) s) (TakePlan.stop 6) (cond (eqb z s) (whole c r o) p)))
 
   record-same : (s c r : ℕ) → planRecord w s c r ≡ planRecord v s c r
   unfolding planRecord
@@ -67,14 +66,14 @@ module _ (w : Words) (nodes pile : List ℕ) (N : AgreeOn (nodesNeeded (w .count
 
   class-same : (s : ℕ) (found : Found) → planClass w s found ≡ planClass v s found
   unfolding planClass
-  class-same s (class-is c) = ap (λ (p : TakePlan). cond (ltb c 256) p (TakePlan.stop 6)) (record-same s c (getD (w .heads) c 0))
+  class-same s (class-is c) = ap (λ (p : TakePlan). cond (ltb c 256) p (TakePlan.stop 6)) (record-same s c (getD (w .binIndices) c 0))
   class-same s no-class = refl
   class-same s bad-bits = refl
 
   take-same : (s : ℕ) → planTake w s ≡ planTake v s
   unfolding planTake
   take-same s =
-      ap (λ (p : TakePlan). cond (eqb (w .off) 0) (TakePlan.stop 3) p) (class-same s (findClass (w .leaves) (w .top) (up s)))
+      ap (λ (p : TakePlan). cond (eqb (w .freeOffset) 0) (TakePlan.stop 3) p) (class-same s (findClass (w .usedBins) (w .usedBinsTop) (up s)))
 
   -- ---- take: the commit
   agree : Agree (w .count) w v
@@ -97,9 +96,9 @@ module _ (w : Words) (nodes pile : List ℕ) (N : AgreeOn (nodesNeeded (w .count
   unfolding doTake
   take-by-plan E s (TakePlan.stop k) g = (refl, agree)
   take-by-plan E s (whole c r o) g =
-      (refl, total-agree (w .count) (granting-agree (bounds E w) s c r (g .record-low)) (w .total - s))
+      (refl, total-agree (w .count) (granting-agree (bounds E w) s c r (g .record-low)) (w .freeStorage - s))
   take-by-plan E s (split c r o rest m) g =
-      (refl, total-agree (w .count) (splitting-agree (bounds E w) s c r o rest m (g .0 .record-low)) (w .total - s))
+      (refl, total-agree (w .count) (splitting-agree (bounds E w) s c r o rest m (g .0 .record-low)) (w .freeStorage - s))
 
   take-alike : (E : Edition) (s : ℕ) → Alike (w .count) (doTake E w s (planTake w s)) (doTake E v s (planTake v s))
   take-alike E s =
@@ -137,7 +136,7 @@ module _ (w : Words) (nodes pile : List ℕ) (N : AgreeOn (nodesNeeded (w .count
       start = if-free dataOffset p p-free (omega arith) p-low (reads dataOffset r (omega arith) r-low) i;
       before = if-free neighborPrev p p-free (omega arith) p-low {d = p} refl i;
       after = if-free neighborNext x x-free (omega arith) x-low {d = x} refl i;
-      total = w .total + reads dataSize r (omega arith) r-low i;
+      total = w .freeStorage + reads dataSize r (omega arith) r-low i;
     }
 
     neighbours-same : (p x : ℕ) → planNeighbours w r p x ≡ planNeighbours v r p x
@@ -214,7 +213,7 @@ module _ (w : Words) (nodes pile : List ℕ) (N : AgreeOn (nodesNeeded (w .count
   unfolding countFrom
   counts-same zero c so-far = refl
   counts-same (suc k) c so-far =
-      λ i. noted (walk-same (w .count) (getD (w .heads) c 0) 0 i) (λ (l : List ℕ). counts-same k (suc c) l i) c so-far
+      λ i. noted (walk-same (w .count) (getD (w .binIndices) c 0) 0 i) (λ (l : List ℕ). counts-same k (suc c) l i) c so-far
 
 -- ---- setup and reset
 fresh-agree : (E : Edition) (size count : ℕ) {nodes pile others spare : List ℕ} → AgreeOn (nodesNeeded count) nodes others

@@ -49,7 +49,7 @@ module _ (K : Bounds) (m s o h p x : ℕ) (nodes : List ℕ) (i : ℕ) (m-apart 
 
 module _ (K : Bounds) (w : Words) (s o m p x : ℕ) where
   pub insert-elsewhere : (i : ℕ) → ((k : ℕ) → k < 7 → i ≢ 8 * m + k)
-      → (getD (w .heads) (down s) 0 < K .n → i ≢ 8 * getD (w .heads) (down s) 0 + binPrev)
+      → (getD (w .binIndices) (down s) 0 < K .n → i ≢ 8 * getD (w .binIndices) (down s) 0 + binPrev)
       → (p < K .n → i ≢ 8 * p + neighborNext)
       → (x < K .n → i ≢ 8 * x + neighborPrev)
       → getD (insert K w s o m p x .nodes) i 0 ≡ getD (w .nodes) i 0
@@ -57,19 +57,19 @@ module _ (K : Bounds) (w : Words) (s o m p x : ℕ) where
   insert-elsewhere i m-apart h-apart p-apart x-apart =
       putLink-elsewhere (K .n) x neighborPrev m _ i x-apart
       ∙ putLink-elsewhere (K .n) p neighborNext m _ i p-apart
-      ∙ insertNodes-elsewhere K m s o (getD (w .heads) (down s) 0) p x (w .nodes) i m-apart h-apart
+      ∙ insertNodes-elsewhere K m s o (getD (w .binIndices) (down s) 0) p x (w .nodes) i m-apart h-apart
 
   pub insert-nodes-length : length (insert K w s o m p x .nodes) ≡ length (w .nodes)
   unfolding insert insertAt joinNodes insertNodes
   insert-nodes-length = simp (length-put, length-putLink)
 
-  pub insert-heads-length : length (insert K w s o m p x .heads) ≡ length (w .heads)
+  pub insert-heads-length : length (insert K w s o m p x .binIndices) ≡ length (w .binIndices)
   unfolding insert insertAt
-  insert-heads-length = length-set (w .heads) (down s) m
+  insert-heads-length = length-set (w .binIndices) (down s) m
 
-  pub insert-leaves-length : length (insert K w s o m p x .leaves) ≡ length (w .leaves)
+  pub insert-leaves-length : length (insert K w s o m p x .usedBins) ≡ length (w .usedBins)
   unfolding insert insertAt
-  insert-leaves-length = cond-length (ltb (getD (w .heads) (down s) 0) (K .n)) (w .leaves) _ (length-set (w .leaves) (down s / 8) _)
+  insert-leaves-length = cond-length (ltb (getD (w .binIndices) (down s) 0) (K .n)) (w .usedBins) _ (length-set (w .usedBins) (down s / 8) _)
 
 -- ---- unlink: two links
 module _ (K : Bounds) (w : Words) (c p x : ℕ) where
@@ -83,14 +83,14 @@ module _ (K : Bounds) (w : Words) (c p x : ℕ) where
   unfolding unlinkAt
   unlinkAt-nodes-length = simp length-putLink
 
-  pub unlinkAt-heads-length : length (unlinkAt K w c p x .heads) ≡ length (w .heads)
+  pub unlinkAt-heads-length : length (unlinkAt K w c p x .binIndices) ≡ length (w .binIndices)
   unfolding unlinkAt
-  unlinkAt-heads-length = cond-length (ltb p (K .n)) (w .heads) _ (length-set (w .heads) c x)
+  unlinkAt-heads-length = cond-length (ltb p (K .n)) (w .binIndices) _ (length-set (w .binIndices) c x)
 
-  pub unlinkAt-leaves-length : length (unlinkAt K w c p x .leaves) ≡ length (w .leaves)
+  pub unlinkAt-leaves-length : length (unlinkAt K w c p x .usedBins) ≡ length (w .usedBins)
   unfolding unlinkAt
   unlinkAt-leaves-length =
-      cond-length (ltb p (K .n)) (w .leaves) _ (cond-length (ltb x (K .n)) (w .leaves) _ (length-set (w .leaves) (c / 8) _))
+      cond-length (ltb p (K .n)) (w .usedBins) _ (cond-length (ltb x (K .n)) (w .usedBins) _ (length-set (w .usedBins) (c / 8) _))
 
 -- ---- setup's two loops: the used words, and the pile
 pub wiped-elsewhere : (k : ℕ) (nodes : List ℕ) (i : ℕ) → ((r : ℕ) → r < k → i ≢ 8 * r + used)

@@ -2,12 +2,12 @@
 -- edition. Assumes nothing.
 use mathlib.Core.Path.{_≡_}
 use mathlib.Core.Logic.{_↔_, _⊎_}
-use mathlib.Core.List.{List, [], _∷_, map}
-use Prim.Native.Nat.{ℕ, zero, suc, _+_, _*_, _-_, _^_, _≤_, _<_}
+use mathlib.Core.List.{List, [], _∷_}
+use Prim.Native.Nat.{ℕ, zero, suc, _+_, _*_, _-_, _≤_, _<_}
 use lib.ListN.{length, getD}
 use Rattle.basics.specs.Extreme.{Greatest, Least}
 use Rattle.ledger.specs.Ledger.{Ledger, granted, done, refused, setup, by-class, Stacks}
-use Rattle.ledger.specs.Calls.{Request, Token, Question, SizeOf, Report, FullReport, Call, Take, HandBack, Reset, Ask, callOf, answerOf, answer, end, answers, log}
+use Rattle.ledger.specs.Calls.{Request, Token, Question, SizeOf, Report, FullReport, Call, Take, HandBack, Reset, Ask, answer, end, answers, log}
 use Rattle.ledger.specs.Stretch.{Stretch}
 use Rattle.tables.specs.Layout.{binNext, used, word, nodesNeeded, pileNeeded}
 use Rattle.tables.specs.Words.{Words, Edition}
@@ -25,7 +25,7 @@ along nodes a (suc k) = along nodes (word nodes binNext a) k
 
 -- the list of class c goes on for more steps than there are records
 abbrev pub Circular : Words → ℕ → Type 0
-Circular w c = (k : ℕ) → k ≤ w .count → along (w .nodes) (getD (w .heads) c 0) k < w .count
+Circular w c = (k : ℕ) → k ≤ w .count → along (w .nodes) (getD (w .binIndices) c 0) k < w .count
 
 -- a count out of its limits
 abbrev pub BadCount : Edition → ℕ → Type 0
@@ -105,7 +105,7 @@ pub record Claims (E : Edition) : Type 0 where
   -- ---- "given exactly when", behind an open gate and on any words, sound or not: 3 exactly if by the head one record is spare (`free_offset` is the
   -- spare records less one, so no head says 'none'); 5 exactly if the number is at or above the count or the used word is 0
   pub take-3 : (w : Words) (asked : Request) → Room E (w .count) (length (w .nodes)) (length (w .pile))
-      → (answerWords E (Take asked) w .0 ≡ refused 3) ↔ (w .off ≡ 0)
+      → (answerWords E (Take asked) w .0 ≡ refused 3) ↔ (w .freeOffset ≡ 0)
   pub back-5 : (w : Words) (span : Token) → Room E (w .count) (length (w .nodes)) (length (w .pile))
       → (answerWords E (HandBack span) w .0 ≡ refused 5) ↔ NotLive w (span .number)
   pub size-5 : (w : Words) (span : Token) → Room E (w .count) (length (w .nodes)) (length (w .pile))
@@ -143,11 +143,11 @@ pub record Claims (E : Edition) : Type 0 where
       × Agree count (setupWords E size count a .1) (setupWords E size count b .1)
   -- ---- the bits: the lowest class that holds something at or above c, and the highest of all
   pub search-finds : (w : Words) (l : Ledger Stacks) → Sound E w l → (c : ℕ)
-      → ((findClass (w .leaves) (w .top) c ≡ no-class) × ((d : ℕ) → c ≤ d → l .index d ≡ []))
-      ⊎ ((d : ℕ) × (findClass (w .leaves) (w .top) c ≡ class-is d) × Least (λ i. (c ≤ i) × Holds l i) d)
+      → ((findClass (w .usedBins) (w .usedBinsTop) c ≡ no-class) × ((d : ℕ) → c ≤ d → l .index d ≡ []))
+      ⊎ ((d : ℕ) × (findClass (w .usedBins) (w .usedBinsTop) c ≡ class-is d) × Least (λ i. (c ≤ i) × Holds l i) d)
   pub highest-found : (w : Words) (l : Ledger Stacks) → Sound E w l
-      → ((w .top ≡ 0) × ((d : ℕ) → l .index d ≡ []))
-      ⊎ Greatest (λ d. Holds l d) (8 * highBit (w .top) + highBit (getD (w .leaves) (highBit (w .top)) 0))
+      → ((w .usedBinsTop ≡ 0) × ((d : ℕ) → l .index d ≡ []))
+      ⊎ Greatest (λ d. Holds l d) (8 * highBit (w .usedBinsTop) + highBit (getD (w .usedBins) (highBit (w .usedBinsTop)) 0))
   -- ---- runs. Demand 2: "from an accepted setup .., under any calls .., answers and reports .. are proved equal to document 01's plain ledger"
   pub demand-2 : (size count : ℕ) (lent : Lent) → setupWords E size count lent .0 ≡ done → (cs : List Call)
       → (answers (answerWords E) cs (setupWords E size count lent .1) ≡ answers (answer by-class size count) cs (setup by-class size count))

@@ -42,12 +42,12 @@ afterTwo = end (answerWords edition32) (takes 20 ∷ takes 30 ∷ []) (desk 100 
 pub record TwoTakes : Type 0 where
   pub size-is : afterTwo .size ≡ 100
   pub count-is : afterTwo .count ≡ 6
-  pub total-is : afterTwo .total ≡ 50
-  pub off-is : afterTwo .off ≡ 2
+  pub total-is : afterTwo .freeStorage ≡ 50
+  pub off-is : afterTwo .freeOffset ≡ 2
   -- the free region of 50 belongs to class 28: bit 3 of the top word, bit 4 of leaf byte 3, and record 2 on top of the class
-  pub top-is : afterTwo .top ≡ 8
-  pub leaves-are : afterTwo .leaves ≡ set (replicate 32 0) 3 16
-  pub heads-are : afterTwo .heads ≡ set (replicate 256 none) 28 2
+  pub top-is : afterTwo .usedBinsTop ≡ 8
+  pub leaves-are : afterTwo .usedBins ≡ set (replicate 32 0) 3 16
+  pub heads-are : afterTwo .binIndices ≡ set (replicate 256 none) 28 2
   -- offset, size, list links back and on, neighbours before and after, used, and the word that no call touches
   pub nodes-are : afterTwo .nodes
       ≡ 0 ∷ 20 ∷ none ∷ none ∷ none ∷ 1 ∷ 1 ∷ 7
@@ -118,11 +118,11 @@ pub record CountRows : Type 0 where
       ≡ record {
         size = 0;
         count = 0;
-        total = 0;
-        off = 0;
-        top = 0;
-        leaves = replicate 32 0;
-        heads = replicate 256 0;
+        freeStorage = 0;
+        freeOffset = 0;
+        usedBinsTop = 0;
+        usedBins = replicate 32 0;
+        binIndices = replicate 256 0;
         nodes = nodes;
         pile = pile;
       }

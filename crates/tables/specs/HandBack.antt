@@ -38,7 +38,7 @@ mergedOf w r p x p-free x-free = record {
   start = cond p-free (word (w .nodes) dataOffset p) (word (w .nodes) dataOffset r);
   before = cond p-free (word (w .nodes) neighborPrev p) p;
   after = cond x-free (word (w .nodes) neighborNext x) x;
-  total = w .total + word (w .nodes) dataSize r;
+  total = w .freeStorage + word (w .nodes) dataSize r;
 }
 
 -- neither the merged length nor the kept total passes the size, and the pile has room
@@ -46,7 +46,7 @@ unfoldable pub planMerged : Words → (p x : ℕ) → (p-free x-free : Bool) →
 planMerged w p x p-free x-free m =
     cond (ltb (w .size) (m .length)) (stop 6)
     (cond (ltb (w .size) (m .total)) (stop 6)
-    (cond (ltb (w .off + one p-free + one x-free) (w .count)) (merge p x p-free x-free m) (stop 6)))
+    (cond (ltb (w .freeOffset + one p-free + one x-free) (w .count)) (merge p x p-free x-free m) (stop 6)))
 
 unfoldable pub planSides : Words → (r p x : ℕ) → (p-free x-free : Bool) → BackPlan
 unfolding planMerged mergedOf

@@ -1,6 +1,5 @@
 -- What every call promises, in four parts: one record for all of them, and one for setup, which takes no head. Assumes nothing.
 use mathlib.Core.Path.{_≡_}
-use mathlib.Core.List.{List}
 use Prim.Native.Nat.{ℕ, _+_, _^_, _≤_, _<_}
 use Rattle.ledger.specs.Ledger.{Ledger, Answer, granted, done, refused, setup, by-class, Stacks}
 use Rattle.ledger.specs.Calls.{Request, Call, Take, answer}

@@ -17,7 +17,7 @@ lengthOf w r = cond (isLive (w .nodes) (w .count) r) (length-is (word (w .nodes)
 
 -- ---- storage_report: the highest class, from the leading zeros of the top word and of its leaf byte
 unfoldable pub reportClass : Words → (c : ℕ) → Answer
-reportClass w c = cond (ltb c classesInUse) (reported (w .total) (value c)) (refused 6)
+reportClass w c = cond (ltb c classesInUse) (reported (w .freeStorage) (value c)) (refused 6)
 
 unfoldable pub reportLeaf : Words → (t m : ℕ) → Answer
 unfolding reportClass highBit
@@ -25,13 +25,13 @@ reportLeaf w t m = cond (eqb m 0) (refused 6) (reportClass w (8 * t + highBit m)
 
 unfoldable pub reportTop : Words → (t : ℕ) → Answer
 unfolding reportLeaf
-reportTop w t = reportLeaf w t (getD (w .leaves) t 0)
+reportTop w t = reportLeaf w t (getD (w .usedBins) t 0)
 
 unfoldable pub reportOf : Words → Answer
 unfolding reportTop highBit
 reportOf w =
-    cond (eqb (w .off) 0) (reported 0 0)
-    (cond (eqb (w .top) 0) (reported (w .total) 0) (reportTop w (highBit (w .top))))
+    cond (eqb (w .freeOffset) 0) (reported 0 0)
+    (cond (eqb (w .usedBinsTop) 0) (reported (w .freeStorage) 0) (reportTop w (highBit (w .usedBinsTop))))
 
 -- ---- storage_report_full: the length of each class's list; a list of more steps than there are records is circular
 pub data Walked : Type 0 where
@@ -57,7 +57,7 @@ unfoldable pub countFrom : ℕ → Words → ℕ → List ℕ → Counts
 unfolding noted listLength
 countFrom zero w c so-far = counts so-far
 countFrom (suc k) w c so-far =
-    noted (listLength (w .count) (w .nodes) (w .count) (getD (w .heads) c 0) 0) (countFrom k w (suc c)) c so-far
+    noted (listLength (w .count) (w .nodes) (w .count) (getD (w .binIndices) c 0) 0) (countFrom k w (suc c)) c so-far
 
 unfoldable pub fullAnswer : Counts → Answer
 unfolding shownValue numbersFrom

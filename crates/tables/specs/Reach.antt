@@ -12,8 +12,8 @@ pub record KeptBeyond (n : ℕ) (w v : Words) : Type 0 where
   pub size-is : v .size ≡ w .size
   pub count-is : v .count ≡ w .count
   -- the head's arrays stay arrays of 256 and 32 (a reset makes them anew)
-  pub heads-length : length (w .heads) ≡ 256 → length (v .heads) ≡ 256
-  pub leaves-length : length (w .leaves) ≡ 32 → length (v .leaves) ≡ 32
+  pub heads-length : length (w .binIndices) ≡ 256 → length (v .binIndices) ≡ 256
+  pub leaves-length : length (w .usedBins) ≡ 32 → length (v .usedBins) ≡ 32
   pub nodes-length : length (v .nodes) ≡ length (w .nodes)
   pub pile-length : length (v .pile) ≡ length (w .pile)
   pub nodes-beyond : (i : ℕ) → nodesNeeded n ≤ i → getD (v .nodes) i 0 ≡ getD (w .nodes) i 0

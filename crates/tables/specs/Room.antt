@@ -15,5 +15,5 @@ pub record Room (E : Edition) (count nodes pile : ℕ) : Type 0 where
 -- what the types of a head say of its words: a size of the edition, 256 heads and 32 leaf bytes
 pub record OfHead (E : Edition) (w : Words) : Type 0 where
   pub size-fits : w .size ≤ E .greatest
-  pub heads-room : length (w .heads) ≡ 256
-  pub leaves-room : length (w .leaves) ≡ 32
+  pub heads-room : length (w .binIndices) ≡ 256
+  pub leaves-room : length (w .usedBins) ≡ 32

@@ -25,11 +25,11 @@ unfolding wiped piled
 blank E size count nodes pile = record {
   size = size;
   count = count;
-  total = size;
-  off = count - 1;
-  top = 0;
-  leaves = replicate 32 0;
-  heads = replicate 256 (E .none);
+  freeStorage = size;
+  freeOffset = count - 1;
+  usedBinsTop = 0;
+  usedBins = replicate 32 0;
+  binIndices = replicate 256 (E .none);
   nodes = wiped count nodes;
   pile = piled count count pile;
 }
@@ -43,24 +43,24 @@ fresh E size count nodes pile =
 
 -- What is lent to a setup, which takes no head: the places of the head's two arrays, and the two tables.
 pub record Lent : Type 0 where
-  pub heads : List ℕ
-  pub leaves : List ℕ
+  pub binIndices : List ℕ
+  pub usedBins : List ℕ
   pub nodes : List ℕ
   pub pile : List ℕ
 
 abbrev pub lentOf : (heads leaves nodes pile : List ℕ) → Lent
-lentOf heads leaves nodes pile = record { heads = heads; leaves = leaves; nodes = nodes; pile = pile }
+lentOf heads leaves nodes pile = record { binIndices = heads; usedBins = leaves; nodes = nodes; pile = pile }
 
 -- what a refused setup gives: scalars of zeros, so that every later call on them is refused as 6, and all that was lent as it came
 abbrev pub zeros : Lent → Words
 zeros lent = record {
   size = 0;
   count = 0;
-  total = 0;
-  off = 0;
-  top = 0;
-  leaves = lent .leaves;
-  heads = lent .heads;
+  freeStorage = 0;
+  freeOffset = 0;
+  usedBinsTop = 0;
+  usedBins = lent .usedBins;
+  binIndices = lent .binIndices;
   nodes = lent .nodes;
   pile = lent .pile;
 }

@@ -42,9 +42,9 @@ pub record Sound (E : Edition) (w : Words) (l : Ledger Stacks) : Type 0 where
   -- the ledger is in order: spare numbers distinct, below the count and at least one; "every other record, at least one, occurs once" in
   -- the line, "which runs from 0 to the size", "no two free in a row"; each class's stack "holds exactly the free regions of its class"
   pub well : WellFormed by-class (w .size) (w .count) l
-  pub spare : PileStands (w .off) (w .nodes) (w .pile) (l .pile)
+  pub spare : PileStands (w .freeOffset) (w .nodes) (w .pile) (l .pile)
   pub line : LineStands (E .none) (w .nodes) (l .line)
-  pub lists : ListsStand (E .none) (w .nodes) (w .heads) (l .index)
-  pub bits : BitsStand (w .leaves) (w .top) (l .index)
+  pub lists : ListsStand (E .none) (w .nodes) (w .binIndices) (l .index)
+  pub bits : BitsStand (w .usedBins) (w .usedBinsTop) (l .index)
   -- "the kept free total is the true sum"
-  pub total : w .total ≡ tally freeLen (l .line)
+  pub total : w .freeStorage ≡ tally freeLen (l .line)

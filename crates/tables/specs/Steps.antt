@@ -36,26 +36,26 @@ module _ (K : Bounds) where
   unfoldable pub insertAt : Words → (s o c h m p x : ℕ) → Words
   insertAt w s o c h m p x =
       withLists w
-      (cond (ltb h (K .n)) (w .top) (setBit (w .top) (c / 8)))
-      (cond (ltb h (K .n)) (w .leaves) (set (w .leaves) (c / 8) (setBit (getD (w .leaves) (c / 8) 0) (c % 8))))
-      (set (w .heads) c m)
+      (cond (ltb h (K .n)) (w .usedBinsTop) (setBit (w .usedBinsTop) (c / 8)))
+      (cond (ltb h (K .n)) (w .usedBins) (set (w .usedBins) (c / 8) (setBit (getD (w .usedBins) (c / 8) 0) (c % 8))))
+      (set (w .binIndices) c m)
       (joinNodes m p x (insertNodes m s o h p x (w .nodes)))
 
   unfoldable pub insert : Words → (s o m p x : ℕ) → Words
-  insert w s o m p x = insertAt w s o (down s) (getD (w .heads) (down s) 0) m p x
+  insert w s o m p x = insertAt w s o (down s) (getD (w .binIndices) (down s) 0) m p x
 
   -- ---- remove_node_from_bin, but for the pile: a record of class c, with p before it and x after it in its list, leaves the list;
   -- if it was the only one its bit is cleared, and where its leaf byte is then 0 the byte's bit too
   unfoldable pub unlinkAt : Words → (c p x : ℕ) → Words
   unlinkAt w c p x =
       withLists w
-      (cond (ltb p (K .n)) (w .top)
-      (cond (ltb x (K .n)) (w .top)
-      (cond (eqb (clearBit 8 (getD (w .leaves) (c / 8) 0) (c % 8)) 0) (clearBit 32 (w .top) (c / 8)) (w .top))))
-      (cond (ltb p (K .n)) (w .leaves)
-      (cond (ltb x (K .n)) (w .leaves)
-      (set (w .leaves) (c / 8) (clearBit 8 (getD (w .leaves) (c / 8) 0) (c % 8)))))
-      (cond (ltb p (K .n)) (w .heads) (set (w .heads) c x))
+      (cond (ltb p (K .n)) (w .usedBinsTop)
+      (cond (ltb x (K .n)) (w .usedBinsTop)
+      (cond (eqb (clearBit 8 (getD (w .usedBins) (c / 8) 0) (c % 8)) 0) (clearBit 32 (w .usedBinsTop) (c / 8)) (w .usedBinsTop))))
+      (cond (ltb p (K .n)) (w .usedBins)
+      (cond (ltb x (K .n)) (w .usedBins)
+      (set (w .usedBins) (c / 8) (clearBit 8 (getD (w .usedBins) (c / 8) 0) (c % 8)))))
+      (cond (ltb p (K .n)) (w .binIndices) (set (w .binIndices) c x))
       (putLink (K .n) x binPrev p (putLink (K .n) p binNext x (w .nodes)))
 
   unfoldable pub unlink : Words → ℕ → Words
@@ -63,7 +63,7 @@ module _ (K : Bounds) where
 
 -- ---- the pile: a record goes onto it; its top leaves it
 unfoldable pub pushPile : Words → ℕ → Words
-pushPile w r = withPile w (w .off + 1) (set (w .pile) (w .off + 1) r)
+pushPile w r = withPile w (w .freeOffset + 1) (set (w .pile) (w .freeOffset + 1) r)
 
 unfoldable pub popPile : Words → Words
-popPile w = withPile w (w .off - 1) (w .pile)
+popPile w = withPile w (w .freeOffset - 1) (w .pile)

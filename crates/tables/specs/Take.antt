@@ -20,7 +20,7 @@ pub data TakePlan : Type 0 where
 -- ---- the plan. On sound tables it never stops with 6.
 -- a remainder needs the record on top of the pile
 unfoldable pub planSpare : Words → (c r o rest m : ℕ) → TakePlan
-planSpare w c r o rest m = cond (ltb (w .off) (w .count)) (cond (ltb m (w .count)) (split c r o rest m) (stop 6)) (stop 6)
+planSpare w c r o rest m = cond (ltb (w .freeOffset) (w .count)) (cond (ltb m (w .count)) (split c r o rest m) (stop 6)) (stop 6)
 
 -- the region is long enough, lies in the store, and the kept total has room for the request
 unfoldable pub planRegion : Words → (s c r z o : ℕ) → TakePlan
@@ -28,9 +28,9 @@ unfolding planSpare
 planRegion w s c r z o =
     cond (ltb z s) (stop 6)
     (cond (ltb (w .size) (o + z)) (stop 6)
-    (cond (ltb (w .total) s) (stop 6)
+    (cond (ltb (w .freeStorage) s) (stop 6)
     (cond (eqb z s) (whole c r o)
-    (planSpare w c r o (z - s) (getD (w .pile) (w .off) 0)))))
+    (planSpare w c r o (z - s) (getD (w .pile) (w .freeOffset) 0)))))
 
 -- the top of the class is a record
 unfoldable pub planRecord : Words → (s c r : ℕ) → TakePlan
@@ -41,14 +41,14 @@ planRecord w s c r =
 -- there is a class, and the head has a place for it
 unfoldable pub planClass : Words → ℕ → Found → TakePlan
 unfolding planRecord
-planClass w s (class-is c) = cond (ltb c 256) (planRecord w s c (getD (w .heads) c 0)) (stop 6)
+planClass w s (class-is c) = cond (ltb c 256) (planRecord w s c (getD (w .binIndices) c 0)) (stop 6)
 planClass w s no-class = stop 4
 planClass w s bad-bits = stop 6
 
 -- more than one record is spare
 unfoldable pub planTake : Words → ℕ → TakePlan
 unfolding planClass findClass
-planTake w s = cond (eqb (w .off) 0) (stop 3) (planClass w s (findClass (w .leaves) (w .top) (up s)))
+planTake w s = cond (eqb (w .freeOffset) 0) (stop 3) (planClass w s (findClass (w .usedBins) (w .usedBinsTop) (up s)))
 
 -- ---- the commit
 -- the top of class c leaves its list and becomes live with length s
@@ -66,5 +66,5 @@ splitting K w s c r o rest m =
 unfoldable pub doTake : Edition → Words → ℕ → TakePlan → Answer × Words
 unfolding granting splitting
 doTake E w s (stop k) = (refused k, w)
-doTake E w s (whole c r o) = (granted o r, withTotal (granting (bounds E w) w s c r) (w .total - s))
-doTake E w s (split c r o rest m) = (granted o r, withTotal (splitting (bounds E w) w s c r o rest m) (w .total - s))
+doTake E w s (whole c r o) = (granted o r, withTotal (granting (bounds E w) w s c r) (w .freeStorage - s))
+doTake E w s (split c r o rest m) = (granted o r, withTotal (splitting (bounds E w) w s c r o rest m) (w .freeStorage - s))

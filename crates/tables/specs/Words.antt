@@ -5,11 +5,11 @@ use Prim.Native.Nat.{ℕ, _^_, _≤_, _<_}
 pub record Words : Type 0 where
   pub size : ℕ  -- size
   pub count : ℕ  -- max_allocs
-  pub total : ℕ  -- free_storage
-  pub off : ℕ  -- free_offset: the spare records less one
-  pub top : ℕ  -- used_bins_top: bit t is set where leaf byte t is not 0
-  pub leaves : List ℕ  -- used_bins: 32 bytes, bit i of byte t for class 8 t + i
-  pub heads : List ℕ  -- bin_indices: 256 words, the record on top of each class
+  pub freeStorage : ℕ  -- free_storage
+  pub freeOffset : ℕ  -- free_offset: the spare records less one
+  pub usedBinsTop : ℕ  -- used_bins_top: bit t is set where leaf byte t is not 0
+  pub usedBins : List ℕ  -- used_bins: 32 bytes, bit i of byte t for class 8 t + i
+  pub binIndices : List ℕ  -- bin_indices: 256 words, the record on top of each class
   pub nodes : List ℕ  -- nodes, lent: 8 words to a record
   pub pile : List ℕ  -- free_nodes, lent: one word to a record
 
@@ -36,11 +36,11 @@ abbrev pub withTotal : Words → (total : ℕ) → Words
 withTotal w total = record {
   size = w .size;
   count = w .count;
-  total = total;
-  off = w .off;
-  top = w .top;
-  leaves = w .leaves;
-  heads = w .heads;
+  freeStorage = total;
+  freeOffset = w .freeOffset;
+  usedBinsTop = w .usedBinsTop;
+  usedBins = w .usedBins;
+  binIndices = w .binIndices;
   nodes = w .nodes;
   pile = w .pile;
 }
@@ -50,11 +50,11 @@ abbrev pub withNodes : Words → (nodes : List ℕ) → Words
 withNodes w nodes = record {
   size = w .size;
   count = w .count;
-  total = w .total;
-  off = w .off;
-  top = w .top;
-  leaves = w .leaves;
-  heads = w .heads;
+  freeStorage = w .freeStorage;
+  freeOffset = w .freeOffset;
+  usedBinsTop = w .usedBinsTop;
+  usedBins = w .usedBins;
+  binIndices = w .binIndices;
   nodes = nodes;
   pile = w .pile;
 }
@@ -64,11 +64,11 @@ abbrev pub withTables : Words → (nodes pile : List ℕ) → Words
 withTables w nodes pile = record {
   size = w .size;
   count = w .count;
-  total = w .total;
-  off = w .off;
-  top = w .top;
-  leaves = w .leaves;
-  heads = w .heads;
+  freeStorage = w .freeStorage;
+  freeOffset = w .freeOffset;
+  usedBinsTop = w .usedBinsTop;
+  usedBins = w .usedBins;
+  binIndices = w .binIndices;
   nodes = nodes;
   pile = pile;
 }
@@ -78,11 +78,11 @@ abbrev pub withLists : Words → (top : ℕ) → (leaves heads nodes : List ℕ)
 withLists w top leaves heads nodes = record {
   size = w .size;
   count = w .count;
-  total = w .total;
-  off = w .off;
-  top = top;
-  leaves = leaves;
-  heads = heads;
+  freeStorage = w .freeStorage;
+  freeOffset = w .freeOffset;
+  usedBinsTop = top;
+  usedBins = leaves;
+  binIndices = heads;
   nodes = nodes;
   pile = w .pile;
 }
@@ -92,11 +92,11 @@ abbrev pub withPile : Words → (off : ℕ) → (pile : List ℕ) → Words
 withPile w off pile = record {
   size = w .size;
   count = w .count;
-  total = w .total;
-  off = off;
-  top = w .top;
-  leaves = w .leaves;
-  heads = w .heads;
+  freeStorage = w .freeStorage;
+  freeOffset = off;
+  usedBinsTop = w .usedBinsTop;
+  usedBins = w .usedBins;
+  binIndices = w .binIndices;
   nodes = w .nodes;
   pile = pile;
 }

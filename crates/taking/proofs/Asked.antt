@@ -4,14 +4,14 @@ use mathlib.Core.Bool.{true, false}
 use mathlib.Core.Logic.{_⊎_, inl, inr}
 use Prim.Native.Nat.{ℕ, _<_}
 use native.Mathlib.Omega.{arith}
-use lib.Dec.{eqb, ltb}
+use lib.Dec.{eqb}
 use lib.ListN.{getD}
 use borrow.Author.Tests.{lt-ltb}
 use Rattle.basics.proofs.Decided.{Same, same?, same, differ, Below, below?, below, beyond}
 use Rattle.small_float.specs.Class.{up}
 use Rattle.tables.specs.Words.{Words}
 use Rattle.tables.specs.Search.{Found, class-is, no-class, bad-bits, findClass}
-use Rattle.tables.specs.Take.{TakePlan, stop, planRecord, planClass, planTake}
+use Rattle.tables.specs.Take.{stop, planRecord, planClass, planTake}
 use Rattle.bitmap.specs.InBits.{Tells}
 use Rattle.taking.specs.Answers.{StoppedBy}
 
@@ -58,10 +58,10 @@ last-of-three a no0 no3 no4 = elim (numbered a) [
 ]
 
 -- c tells what was found from d on, the class wanted
-module _ (w : Words) (s : ℕ) {c d n : ℕ} (a : StoppedBy (w .off) c n) (found : Tells (findClass (w .leaves) (w .top) d) c) (wanted : d ≡ up s) where
-  its-case : Case (w .off) (findClass (w .leaves) (w .top) (up s)) c n
+module _ (w : Words) (s : ℕ) {c d n : ℕ} (a : StoppedBy (w .freeOffset) c n) (found : Tells (findClass (w .usedBins) (w .usedBinsTop) d) c) (wanted : d ≡ up s) where
+  its-case : Case (w .freeOffset) (findClass (w .usedBins) (w .usedBinsTop) (up s)) c n
   its-case =
-      case a (findClass (w .leaves) (w .top) (up s)) (subst (λ (x : ℕ). Tells (findClass (w .leaves) (w .top) x) c) wanted found)
+      case a (findClass (w .usedBins) (w .usedBinsTop) (up s)) (subst (λ (x : ℕ). Tells (findClass (w .usedBins) (w .usedBinsTop) x) c) wanted found)
 
   pub planned-stop : (k : ℕ) → n ≡ k → ¬ (k ≡ 0) → stop k ≡ planTake w s
   unfolding planTake planClass
@@ -72,7 +72,7 @@ module _ (w : Words) (s : ℕ) {c d n : ℕ} (a : StoppedBy (w .off) c n) (found
     | on e f l j ↦ absurd (no0 (sym m ∙ j))
   ]
 
-  pub planned-record : n ≡ 0 → planRecord w s c (getD (w .heads) c 0) ≡ planTake w s
+  pub planned-record : n ≡ 0 → planRecord w s c (getD (w .binIndices) c 0) ≡ planTake w s
   unfolding planTake planClass
   planned-record z = elim its-case [
     | spare e j ↦ absurd (omega (arith, z, j))

@@ -4,7 +4,7 @@ use mathlib.Core.Path.{_≡_, sym, ap, _∙_}
 use mathlib.Core.List.{List}
 use Prim.Native.Nat.{ℕ, _-_}
 use Rattle.ledger.specs.Ledger.{Answer, granted, refused}
-use Rattle.ledger.specs.Calls.{Take, takes}
+use Rattle.ledger.specs.Calls.{takes}
 use Rattle.tables.specs.Words.{Words, Edition, bounds, withTotal}
 use Rattle.tables.specs.Gate.{gateOf}
 use Rattle.tables.specs.Take.{TakePlan, stop, whole, split, planTake, granting, splitting, doTake}
@@ -24,12 +24,12 @@ module _ (E : Edition) (w : Words) where
   stopped s e = ap (λ (p : TakePlan). doTake E w s p) (sym e)
 
   pub taken-whole : (s : ℕ) {v : Words} {c r o : ℕ} → planTake w s ≡ whole c r o
-      → v ≡ withTotal (granting (bounds E w) w s c r) (w .total - s) → (granted o r, v) ≡ doTake E w s (planTake w s)
+      → v ≡ withTotal (granting (bounds E w) w s c r) (w .freeStorage - s) → (granted o r, v) ≡ doTake E w s (planTake w s)
   unfolding doTake
   taken-whole s {r = r} {o = o} e f = ap (λ (u : Words). (granted o r, u)) f ∙ ap (λ (p : TakePlan). doTake E w s p) (sym e)
 
   pub taken-part : (s : ℕ) {v : Words} {c r o rest m : ℕ} → planTake w s ≡ split c r o rest m
-      → v ≡ withTotal (splitting (bounds E w) w s c r o rest m) (w .total - s) → (granted o r, v) ≡ doTake E w s (planTake w s)
+      → v ≡ withTotal (splitting (bounds E w) w s c r o rest m) (w .freeStorage - s) → (granted o r, v) ≡ doTake E w s (planTake w s)
   unfolding doTake
   taken-part s {r = r} {o = o} e f = ap (λ (u : Words). (granted o r, u)) f ∙ ap (λ (p : TakePlan). doTake E w s p) (sym e)
 

@@ -1,7 +1,7 @@
 -- A take's answers as the ledger's, and its plan as the model's. Assumes nothing.
 use mathlib.Core.Path.{_≡_}
 use Prim.Native.Nat.{ℕ, _≤_, _<_}
-use Rattle.ledger.specs.Ledger.{Answer, granted, refused}
+use Rattle.ledger.specs.Ledger.{Answer}
 use Rattle.tables.specs.Words.{Words}
 use Rattle.tables.specs.Calls.{edition32}
 use Rattle.tables.specs.Take.{TakePlan, stop, whole, split, planTake, doTake}

@@ -1,11 +1,10 @@
 -- A full report's columns, a class at a time. Assumes nothing.
 use Prim.Native.Nat.{ℕ, zero, suc, _+_, _<_}
-use mathlib.Core.Path.{_≡_, refl, ap, sym, _∙_}
+use mathlib.Core.Path.{_≡_, refl, ap, _∙_}
 use mathlib.Core.List.{List, map}
 use native.Mathlib.Nat.{add-zero, zero-add}
 use native.Mathlib.Omega.{arith}
 use lib.ListN.{getD}
-use Rattle.basics.specs.Sum.{tally}
 use Rattle.ledger.specs.Ledger.{numbersFrom}
 use Rattle.answers.specs.Answers.{columns}
 use Rattle.telling.specs.Told.{oneIfHeld, classesHeld}

@@ -35,7 +35,7 @@ returns c =
     let tested = found .before .before in (
       promise edition32 (Ask FullReport) _
           (answered-as (c .refuse .ensures .0) (shut-out _ (Ask FullReport) (tested .test .ensures) (found .why .given .1))),
-      c .refuse .ensures .1,
+      (c .refuse .ensures .1, c .refuse .ensures .2),
     )
 
 returns-2 : tie.Need-returns-2

@@ -1,6 +1,5 @@
 -- The totals are 0, whatever was lent. Assumes nothing.
 use mathlib.Core.Path.{refl}
-use borrow.Author.Needs.{needs}
 use Rattle.starting.proofs.leave_all.Statement.{statement}
 use Rattle.starting.proofs.leave_all.Tie as tie
 

@@ -1,5 +1,5 @@
 -- Shut out by the gate, or started afresh. Assumes nothing.
-use mathlib.Core.Path.{sym, ap, subst, _∙_}
+use mathlib.Core.Path.{ap, _∙_}
 use native.Mathlib.Omega.{arith}
 use Prim.Native.Nat.{ℕ, _<_, _^_}
 use Rattle.tables.specs.Setup.{lentOf, fresh}

@@ -58,7 +58,7 @@ loop-again c =
     )
 
 returns : tie.Need-returns Inv-loop μ-loop
-returns c k h = c .before .loop .inv .2 k (omega arith)
+returns c = (c .before .loop .inv .1, λ k h. c .before .loop .inv .2 k (omega arith))
 
 pub class-sizes-spec : {M : Type 1} → statement M
 class-sizes-spec =

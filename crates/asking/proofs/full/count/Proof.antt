@@ -2,7 +2,7 @@
 use Prim.Native.Nat.{ℕ, _≤_, _-_}
 use mathlib.Core.Path.{_≡_, refl, sym, ap, _∙_}
 use mathlib.Core.List.{List}
-use lib.ListN.{replicate}
+use lib.ListN.{length, replicate, length-set}
 use Rattle.tables.specs.Questions.{lost, countFrom, fullAnswer}
 use Rattle.bins.specs.InWords.{wordsOf}
 use Rattle.asking.specs.Answers.{walkedOf}
@@ -16,6 +16,7 @@ use Rattle.asking.proofs.full.count.Tie as tie
 abbrev Inv-loop : tie.InvT-loop
 Inv-loop t bin-indices nodes sizes counts₀ i₀ counts i =
     (i ≤ 256)
+    × (length counts ≡ 256)
     × ((leaves pile : List ℕ)
     → countFrom 256 (wordsOf t bin-indices leaves nodes pile) 0 (replicate 256 0)
     ≡ countFrom (256 - i) (wordsOf t bin-indices leaves nodes pile) i counts)
@@ -27,7 +28,7 @@ class-sizes-requires : tie.Need-class-sizes-requires Inv-loop μ-loop
 class-sizes-requires c κs = search needs
 
 loop-holds : tie.Need-loop-holds Inv-loop μ-loop
-loop-holds c = (search needs, λ leaves pile. refl)
+loop-holds c = (search needs, refl, λ leaves pile. refl)
 
 mul-list-length : tie.Need-mul-list-length Inv-loop μ-loop
 mul-list-length c = search needs
@@ -55,9 +56,9 @@ returns c =
     let seen : walkedOf (walk .list-length .result) ≡ lost = ap walkedOf (c .before .enum-told .given .1) in (
       λ leaves pile.
           c .refuse .ensures .0
-          ∙ sym (ap fullAnswer (test .before .loop .inv .1 leaves pile
+          ∙ sym (ap fullAnswer (test .before .loop .inv .2 leaves pile
           ∙ count-lost _ _ _ (test .loop-test .taken) (sym (walk .list-length .ensures) ∙ seen))),
-      c .refuse .ensures .1,
+      (c .refuse .ensures .1, c .refuse .ensures .2),
     )
 
 mul-counts : tie.Need-mul-counts Inv-loop μ-loop
@@ -77,8 +78,9 @@ loop-again c =
     let walk = c .before .before .before in
     let test = walk .before .before in (
       omega arith,
+      simp length-set (test .before .loop .inv .1),
       λ leaves pile.
-          test .before .loop .inv .1 leaves pile
+          test .before .loop .inv .2 leaves pile
           ∙ count-goes-on _ _ _ (test .loop-test .taken) (sym (walk .list-length .ensures) ∙ ap walkedOf (c .before .walked .given .1)),
     )
 
@@ -86,9 +88,9 @@ returns-2 : tie.Need-returns-2 Inv-loop μ-loop
 returns-2 c =
     let shown = c .before .before .class-sizes in (
       λ leaves pile.
-          full-columns (shown .result) (c .before .loop .counts) (shown .ensures)
-          ∙ sym (ap fullAnswer (c .before .loop .inv .1 leaves pile ∙ count-ends _ _ _ (c .loop-test .left))),
-      tt,
+          full-columns (shown .result) (c .before .loop .counts) (shown .ensures .1)
+          ∙ sym (ap fullAnswer (c .before .loop .inv .2 leaves pile ∙ count-ends _ _ _ (c .loop-test .left))),
+      (tt, (shown .ensures .0, c .before .loop .inv .1)),
     )
 
 pub count-spec : {M : Type 1} → statement M

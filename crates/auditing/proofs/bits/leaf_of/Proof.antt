@@ -1,6 +1,6 @@
 -- The bits from i on are made. Assumes nothing.
 use mathlib.Core.Path.{_≡_, sym, ap, _∙_}
-use Prim.Native.Nat.{_-_, _≤_}
+use Prim.Native.Nat.{_≤_}
 use Rattle.tables.specs.Calls.{edition32}
 use Rattle.auditing.specs.Bits.{leafOf}
 use Rattle.auditing.proofs.Turns.{headBit-bit, leafBit, Above, mask-none-yet, mask-turn, mask-all, mask-room}

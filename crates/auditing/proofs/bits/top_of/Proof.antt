@@ -1,6 +1,6 @@
 -- The bits from t on are made. Assumes nothing.
 use mathlib.Core.Path.{_≡_, sym, ap, _∙_}
-use Prim.Native.Nat.{ℕ, _-_, _≤_}
+use Prim.Native.Nat.{ℕ, _≤_}
 use lib.ListN.{getD}
 use Rattle.tables.specs.Linked.{nonZero}
 use Rattle.tables.proofs.Masks.{nonZero-bit}

@@ -1,6 +1,7 @@
 -- The tests are the model's, in the same order. Assumes nothing.
 use borrow.Author.Tests.{lt-ltb, le-ltb}
 use Rattle.tables.specs.Gate.{gate}
+use Rattle.tables.specs.Calls.{edition32}
 use borrow.Author.Needs.{needs}
 use Rattle.bins.proofs.gate.test.Statement.{statement}
 use Rattle.bins.proofs.gate.test.Tie as tie
@@ -13,7 +14,7 @@ returns-2 : tie.Need-returns-2
 unfolding gate
 returns-2 c =
     let count = c .before .before .args .max-allocs in
-    rw (le-ltb count 2 (c .before .if1 .left), lt-ltb 131072 count (c .if2 .taken))
+    rw (le-ltb count 2 (c .before .if1 .left), lt-ltb (edition32 .limit) count (c .if2 .taken))
 
 mul-if3 : tie.Need-mul-if3
 mul-if3 c = search needs

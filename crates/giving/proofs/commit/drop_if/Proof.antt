@@ -27,7 +27,7 @@ push-requires c κs =
     let same = removed .remove-node-from-bin .ensures [] in
     omega (
       arith,
-      ap (λ (w : Words). w .off) same ∙ unlink-off _ _ _,
+      ap (λ (w : Words). w .freeOffset) same ∙ unlink-off _ _ _,
       ap (λ (w : Words). w .count) same ∙ unlink-count _ _ _,
       removed .remove-node-from-bin .ok,
       ap one (test .if1 .taken),

@@ -31,7 +31,7 @@ pop-requires : tie.Need-pop-requires
 unfolding granting unlinkAt
 pop-requires c κs =
     let start = c .before .before .before .before .before .before .before .before .before .before in
-    omega (arith, ap (λ (w : Words). w .off) (c .before .before .make-live .ensures []), start .pre .1 .0 .spare)
+    omega (arith, ap (λ (w : Words). w .freeOffset) (c .before .before .make-live .ensures []), start .pre .1 .0 .spare)
 
 add-insert-node-into-bin : tie.Need-add-insert-node-into-bin
 add-insert-node-into-bin c = search needs
