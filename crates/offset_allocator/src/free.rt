@@ -8,6 +8,7 @@ ghost use Rattle.offset_allocator.specs.HeadWords.{headWords};
 use crate::head::Head;
 use answers::BackAnswer;
 use answers::Handle;
+use bins::totals::Totals;
 
 pub struct Freed {
     pub answer: BackAnswer,
@@ -24,7 +25,15 @@ impl Head {
     {
         let mut bin_indices = self.bin_indices;
         let mut used_bins = self.used_bins;
-        let t = self.totals;
+        let kept = self.totals;
+        // In a place of their own: lent where they stand, they would keep the compiler from holding the head in parts (docs/SPEED.md).
+        let t = Totals {
+            size: kept.size,
+            max_allocs: kept.max_allocs,
+            free_storage: kept.free_storage,
+            free_offset: kept.free_offset,
+            used_bins_top: kept.used_bins_top,
+        };
         let returned = giving::free(
             t,
             handle,
