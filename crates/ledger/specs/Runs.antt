@@ -83,7 +83,8 @@ pub record NearlyRight : Type 0 where
       (granted 0 0 ∷ granted 10 1 ∷ granted 20 2 ∷ granted 30 3 ∷ done ∷ done ∷ granted 20 2 ∷ [])
   -- the pile's order swapped: of two merged away, the one after is taken first
   pub before-goes-first :
-      Answering 100 8 (takes 10 ∷ takes 10 ∷ takes 10 ∷ takes 10 ∷ hands-back 0 ∷ hands-back 2 ∷ hands-back 1 ∷ takes 5 ∷ takes 5 ∷ takes 5 ∷ [])
+      Answering 100 8
+      (takes 10 ∷ takes 10 ∷ takes 10 ∷ takes 10 ∷ hands-back 0 ∷ hands-back 2 ∷ hands-back 1 ∷ takes 5 ∷ takes 5 ∷ takes 5 ∷ [])
       (granted 0 0 ∷ granted 10 1 ∷ granted 20 2 ∷ granted 30 3 ∷ done ∷ done ∷ done ∷ granted 0 1 ∷ granted 5 2 ∷ granted 10 0 ∷ [])
   -- the merged region given the earlier record
   pub keeps-its-record : Answering 100 6 (takes 10 ∷ takes 10 ∷ takes 10 ∷ hands-back 0 ∷ hands-back 1 ∷ takes 20 ∷ [])
@@ -102,7 +103,8 @@ pub record ZeroLength : Type 0 where
   -- "two may share an offset"
   pub one-offset : Answering 100 6 (takes 0 ∷ takes 0 ∷ []) (granted 0 0 ∷ granted 0 1 ∷ [])
   -- "a live one between two free regions keeps them from merging"
-  pub kept-apart : end (answer by-class 100 6) (takes 20 ∷ takes 0 ∷ hands-back 0 ∷ []) (setup by-class 100 6) .line ≡ free 20 0 ∷ live 0 1 ∷ free 80 2 ∷ []
+  pub kept-apart : end (answer by-class 100 6) (takes 20 ∷ takes 0 ∷ hands-back 0 ∷ []) (setup by-class 100 6) .line
+      ≡ free 20 0 ∷ live 0 1 ∷ free 80 2 ∷ []
 
 -- ---- numbers and figures, of each kind of call, answered and refused
 abbrev pub numberAndFigures : Event → ℕ × List ℕ
@@ -110,19 +112,23 @@ numberAndFigures (event c a) = (refusalOf a, figuresOf c a)
 
 pub record FigureRows : Type 0 where
   pub in-a-run : map numberAndFigures (log (answer by-class 100 6)
-      (takes 20 ∷ takes 30 ∷ takes 49 ∷ asks-size 1 ∷ asks-size 9 ∷ Ask Report ∷ hands-back 1 ∷ hands-back 1 ∷ Reset ∷ []) (setup by-class 100 6))
-      ≡ (0, 0 ∷ 0 ∷ []) ∷ (0, 20 ∷ 1 ∷ []) ∷ (4, 0 ∷ 0 ∷ []) ∷ (0, 30 ∷ []) ∷ (5, 0 ∷ []) ∷ (0, 50 ∷ 48 ∷ []) ∷ (0, []) ∷ (5, []) ∷ (0, []) ∷ []
+      (takes 20 ∷ takes 30 ∷ takes 49 ∷ asks-size 1 ∷ asks-size 9 ∷ Ask Report ∷ hands-back 1 ∷ hands-back 1 ∷ Reset ∷ [])
+      (setup by-class 100 6))
+      ≡ (0, 0 ∷ 0 ∷ []) ∷ (0, 20 ∷ 1 ∷ []) ∷ (4, 0 ∷ 0 ∷ []) ∷ (0, 30 ∷ []) ∷ (5, 0 ∷ []) ∷ (0, 50 ∷ 48 ∷ [])
+      ∷ (0, []) ∷ (5, []) ∷ (0, []) ∷ []
   -- the rows of a full report, each a value and a number
   pub of-rows : inARow ((16, 3) ∷ (18, 5) ∷ []) ≡ 16 ∷ 3 ∷ 18 ∷ 5 ∷ []
 
 -- ---- demand 3 is not about nothing, and needs its 'last granted first'
 pub record StretchExamples : Type 0 where
   -- a stretch, with a refused take and a report in it
-  pub a-stretch : Stretch [] (log (answer by-class 100 6) (takes 20 ∷ takes 30 ∷ takes 99 ∷ hands-back 1 ∷ Ask Report ∷ hands-back 0 ∷ []) (setup by-class 100 6))
+  pub a-stretch : Stretch [] (log (answer by-class 100 6)
+      (takes 20 ∷ takes 30 ∷ takes 99 ∷ hands-back 1 ∷ Ask Report ∷ hands-back 0 ∷ []) (setup by-class 100 6))
   -- a stretch with a take of 0 in it, each call that can be refused, with each number, and each question
   pub all-kinds : Stretch [] (log (answer by-class 100 4)
       (takes 0 ∷ asks-size 0 ∷ hands-back 0
-      ∷ takes 20 ∷ takes 99 ∷ takes 30 ∷ takes 1 ∷ hands-back 2 ∷ asks-size 9 ∷ Ask Report ∷ Ask FullReport ∷ hands-back 1 ∷ hands-back 0 ∷ [])
+      ∷ takes 20 ∷ takes 99 ∷ takes 30 ∷ takes 1 ∷ hands-back 2 ∷ asks-size 9
+      ∷ Ask Report ∷ Ask FullReport ∷ hands-back 1 ∷ hands-back 0 ∷ [])
       (setup by-class 100 4))
   -- and its answers
   pub all-kinds-answers : Answering 100 4

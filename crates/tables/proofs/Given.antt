@@ -24,7 +24,8 @@ use Rattle.tables.specs.Claims.{OneOf, mayTell, mayGiveBehind, mayGive, 
 use Rattle.tables.specs.Examples.{LongEnough, CountRows, AllGiven, EveryEdition}
 use Rattle.tables.proofs.MaskEnds.{low-past}
 use Rattle.tables.proofs.Gate.{call-open}
-use Rattle.tables.proofs.Refusals.{setup-1, setup-2, setup-done, setup-refused, call-6, call-2, take-3, back-5, size-5, setup-10, setup-numbers}
+use Rattle.tables.proofs.Refusals.{setup-1, setup-10, setup-2, setup-done, setup-refused, setup-numbers}
+use Rattle.tables.proofs.Refusals.{call-6, call-2, take-3, back-5, size-5}
 use Rattle.tables.proofs.Runs.{call-sound, demand-2}
 
 -- ---- counts
@@ -34,7 +35,8 @@ accepted size count lent fits low high long =
     setup-done edition32 size count lent .1
     (omega arith, record { count-low = low; count-high = high; nodes-room = long .0; pile-room = long .1 })
 
-only-1-and-2 : (size count : ℕ) (lent : Lent) (k : ℕ) → size < 2 ^ 32 → setupWords edition32 size count lent .0 ≡ refused k → OneOf (1 ∷ 2 ∷ []) k
+only-1-and-2 : (size count : ℕ) (lent : Lent) (k : ℕ) → size < 2 ^ 32 → setupWords edition32 size count lent .0 ≡ refused k
+    → OneOf (1 ∷ 2 ∷ []) k
 only-1-and-2 size count lent k fits e = go (setup-numbers edition32 size count lent k e)
   where
     go : OneOf (1 ∷ 10 ∷ 2 ∷ []) k → OneOf (1 ∷ 2 ∷ []) k
@@ -58,7 +60,8 @@ count-rows = record {
   count-2 = λ size lent fits long. accepted size 2 lent fits (omega arith) (omega arith) long;
   takes-of-2 = λ size lent fits long cs asked.
       let sound = demand-2 edition32 size 2 lent (accepted size 2 lent fits (omega arith) (omega arith) long) cs .1 in
-      call-sound edition32 (end (answerWords edition32) cs (setupWords edition32 size 2 lent .1)) (end (answer by-class size 2) cs (setup by-class size 2)) sound (Take asked) .0
+      call-sound edition32 (end (answerWords edition32) cs (setupWords edition32 size 2 lent .1))
+      (end (answer by-class size 2) cs (setup by-class size 2)) sound (Take asked) .0
       ∙ unfold answer in small-stores .count-2 size (asked .size) (end (answer by-class size 2) cs (setup by-class size 2)) (cs, refl);
   count-131072 = λ size lent fits long. accepted size 131072 lent fits (omega arith) (omega arith) long;
   count-131073 = λ size lent. setup-1 edition32 size 131073 lent .1 (inr (omega arith));
@@ -137,8 +140,16 @@ given c k (inl e) = renumber c e (gives-6 c)
 given c k (inr (inl e)) = renumber c e (gives-2 c)
 given c k (inr (inr e)) = given-behind c k e
 
+five : (k : ℕ) → OneOf (5 ∷ []) k → k ≡ 5
+five k (inl e) = e
+five k (inr e) = absurd e
+
 pub all-given : AllGiven
-all-given = record { all-given = given }
+all-given = record {
+  all-given = given;
+  reset-never = λ k e. e;
+  size-query-5 = λ span k. (five k, λ e. inl e);
+}
 
 pub every-edition : EveryEdition
 every-edition = record {

@@ -19,12 +19,14 @@ use Rattle.tables.specs.Setup.{Lent, fresh, zeros, setupWords}
 use Rattle.tables.specs.Search.{Found, findClass, highBit}
 use Rattle.tables.specs.Take.{planClass, planTake, doTake}
 use Rattle.tables.specs.HandBack.{isLive, planNeighbours, planBack, doBack}
-use Rattle.tables.specs.Questions.{reportClass, reportLeaf, reportTop, reportOf, Counts, counts, circular, countFrom, fullAnswer, lengthOf, fullReportOf}
+use Rattle.tables.specs.Questions.{reportClass, reportLeaf, reportTop, reportOf, lengthOf}
+use Rattle.tables.specs.Questions.{Counts, counts, circular, countFrom, fullAnswer, fullReportOf}
 use Rattle.tables.specs.Calls.{toldBy, behind, answerWords}
 use Rattle.tables.specs.Room.{Room}
 use Rattle.tables.specs.Claims.{BadCount, TooShort, TooLarge, OneOf, mayGive, NotLive, mayGiveBehind, mayTell}
 use Rattle.tables.proofs.Gate.{bad-count, too-short, open-gate, gated?, room-not-bad, room-not-short, short-not-bad, call-open}
-use Rattle.tables.proofs.Gate.{large-not-bad, sizes-pass, SetupCase, count-bad, too-large, table-short, accepted, setup-case, room-opens, gated-open, gated-shut, call-shut}
+use Rattle.tables.proofs.Gate.{SetupCase, count-bad, too-large, table-short, accepted, setup-case, large-not-bad, sizes-pass}
+use Rattle.tables.proofs.Gate.{room-opens, gated-open, gated-shut, call-shut}
 use Rattle.tables.proofs.PlanEnds.{either, class-ends, take-ends, neighbours-ends, back-ends}
 
 -- ---- the gate's two refusals

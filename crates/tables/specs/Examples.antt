@@ -1,17 +1,18 @@
 -- Document 01's run on words, a small store shown whole, rows that catch models which are nearly right, and spoiled words.
 -- All are of the base's edition, on tables that held sevens; proofs/Answers.antt computes them. Assumes nothing.
 use mathlib.Core.Path.{_≡_}
+use mathlib.Core.Logic.{_↔_}
 use Prim.Native.Nat.{ℕ, _^_, _≤_, _<_}
 use mathlib.Core.List.{List, [], _∷_}
 use lib.ListN.{length, set, replicate}
 use Rattle.ledger.specs.Ledger.{Answer, granted, done, length-is, reported, refused}
-use Rattle.ledger.specs.Calls.{Request, Report, FullReport, Call, Take, Reset, Ask, takes, hands-back, asks-size, answers, end}
+use Rattle.ledger.specs.Calls.{Request, Token, SizeOf, Report, FullReport, Call, Take, Reset, Ask, takes, hands-back, asks-size, answers, end}
 use Rattle.ledger.specs.Runs.{the-calls, the-answers}
 use Rattle.tables.specs.Layout.{dataOffset, dataSize, binNext, put, nodesNeeded, pileNeeded}
 use Rattle.tables.specs.Words.{Words, Edition, withNodes}
 use Rattle.tables.specs.Setup.{Lent, tablesAlone, setupWords}
 use Rattle.tables.specs.Calls.{edition32, answerWords}
-use Rattle.tables.specs.Claims.{OneOf, mayGive}
+use Rattle.tables.specs.Claims.{OneOf, mayGiveBehind, mayGive}
 
 unfoldable pub desk : (size count : ℕ) → Words
 unfolding setupWords
@@ -29,7 +30,8 @@ withReports (row ∷ rows) = row .0 ∷ reported (row .1 .0) (row .1 .1) ∷ wit
 pub record RunOnWords : Type 0 where
   pub the-run : answers (answerWords edition32) (Ask Report ∷ reporting the-calls) (desk 100 6) ≡ reported 100 96 ∷ withReports the-answers
   -- "The one region now belongs to record 2"; after a reset it is record 0's again
-  pub then-reset : answers (answerWords edition32) (takes 5 ∷ asks-size 2 ∷ Reset ∷ asks-size 2 ∷ takes 5 ∷ Ask Report ∷ []) (end (answerWords edition32) the-calls (desk 100 6))
+  pub then-reset : answers (answerWords edition32) (takes 5 ∷ asks-size 2 ∷ Reset ∷ asks-size 2 ∷ takes 5 ∷ Ask Report ∷ [])
+      (end (answerWords edition32) the-calls (desk 100 6))
       ≡ granted 0 2 ∷ length-is 5 ∷ done ∷ refused 5 ∷ granted 0 0 ∷ reported 95 88 ∷ []
 
 -- ---- the words of that store after its first two takes
@@ -67,12 +69,14 @@ pub record NearlyRight : Type 0 where
   -- the leaf floor kept after moving up: a request of class 7, leaf 7, is served by a region of class 32, leaf 0
   pub floor-dropped : answers (answerWords edition32) (takes 7 ∷ []) (desk 64 4) ≡ granted 0 0 ∷ []
   -- the top bit not cleared when its leaf byte falls to 0: the only region is granted whole
-  pub top-bit-cleared : answers (answerWords edition32) (takes 64 ∷ Ask Report ∷ takes 1 ∷ []) (desk 64 4) ≡ granted 0 0 ∷ reported 0 0 ∷ refused 4 ∷ []
+  pub top-bit-cleared : answers (answerWords edition32) (takes 64 ∷ Ask Report ∷ takes 1 ∷ []) (desk 64 4)
+      ≡ granted 0 0 ∷ reported 0 0 ∷ refused 4 ∷ []
   -- the pile index off by one: a remainder takes the record on top
   pub pile-top : answers (answerWords edition32) (takes 10 ∷ takes 10 ∷ []) (desk 100 6) ≡ granted 0 0 ∷ granted 10 1 ∷ []
   -- the old top's back link not written: of two regions of class 10 the lower is merged away first, and the class is then empty
   pub linked-back : answers (answerWords edition32)
-      (takes 10 ∷ takes 10 ∷ takes 10 ∷ takes 10 ∷ takes 10 ∷ takes 10 ∷ hands-back 0 ∷ hands-back 2 ∷ hands-back 1 ∷ hands-back 4 ∷ takes 10 ∷ [])
+      (takes 10 ∷ takes 10 ∷ takes 10 ∷ takes 10 ∷ takes 10 ∷ takes 10
+      ∷ hands-back 0 ∷ hands-back 2 ∷ hands-back 1 ∷ hands-back 4 ∷ takes 10 ∷ [])
       (desk 100 8)
       ≡ granted 0 0 ∷ granted 10 1 ∷ granted 20 2 ∷ granted 30 3 ∷ granted 40 4 ∷ granted 50 5
       ∷ done ∷ done ∷ done ∷ done ∷ granted 40 4 ∷ []
@@ -109,7 +113,8 @@ pub record CountRows : Type 0 where
   pub count-131072 : (size : ℕ) (lent : Lent) → size < 2 ^ 32 → LongEnough 131072 lent → setupWords edition32 size 131072 lent .0 ≡ done
   pub count-131073 : (size : ℕ) (lent : Lent) → setupWords edition32 size 131073 lent .0 ≡ refused 1
   -- every 32-bit size is one of this edition, so its setup gives 1 and 2 alone
-  pub setup-32 : (size count : ℕ) (lent : Lent) (k : ℕ) → size < 2 ^ 32 → setupWords edition32 size count lent .0 ≡ refused k → OneOf (1 ∷ 2 ∷ []) k
+  pub setup-32 : (size count : ℕ) (lent : Lent) (k : ℕ) → size < 2 ^ 32 → setupWords edition32 size count lent .0 ≡ refused k
+      → OneOf (1 ∷ 2 ∷ []) k
   -- LongEnough asks no more than it must: without it, a count that would do is refused as 2
   pub not-long-enough : (size count : ℕ) (lent : Lent) → size < 2 ^ 32 → 2 ≤ count → count ≤ 131072 → ¬ LongEnough count lent
       → setupWords edition32 size count lent .0 ≡ refused 2
@@ -130,6 +135,9 @@ pub record CountRows : Type 0 where
 -- ---- every number that `mayGive` names is given, on some words
 pub record AllGiven : Type 0 where
   pub all-given : (c : Call) (k : ℕ) → OneOf (mayGive c) k → (w : Words) × (answerWords edition32 c w .0 ≡ refused k)
+  -- and behind an open gate no number is named that is not meant: a reset is never refused there, a size query with 5 alone
+  pub reset-never : (k : ℕ) → ¬ OneOf (mayGiveBehind Reset) k
+  pub size-query-5 : (span : Token) (k : ℕ) → OneOf (mayGiveBehind (Ask (SizeOf span))) k ↔ (k ≡ 5)
 
 -- ---- any marker that no record below the limit can have makes an edition, so the claims are of all of these
 pub record EveryEdition : Type 0 where
