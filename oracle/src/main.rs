@@ -17,7 +17,8 @@ usage: oracle COMMAND
   classes        the size classes: every class with its value, and sizes with their classes
   runs           runs of calls, each with its answer and the report after it
   long-runs N    N calls in long runs with many records, for a pipe
-  speed N        N seeded takes and returns, to be timed
+  speed RUN SIZE RECORDS CALLS
+                 a run of seeded takes and returns, to be timed
   spoil          small stores word by word, each word spoiled, with what an audit must answer";
 
 fn main() -> ExitCode {
@@ -32,13 +33,11 @@ fn main() -> ExitCode {
         ["long-runs", calls] if calls.parse::<u32>().is_ok() => {
             long_runs::write(&mut out, calls.parse().unwrap_or_default())
         }
-        ["speed", calls] if calls.parse::<u32>().is_ok() => {
-            speed::write(&mut out, calls.parse().unwrap_or_default())
-        }
-        _ => {
-            eprintln!("{USAGE}");
-            return ExitCode::from(2);
-        }
+        ["speed", run, size, records, calls] => match numbers([run, size, records, calls]) {
+            Some([run, size, records, calls]) => speed::write(&mut out, run, size, records, calls),
+            None => return usage(),
+        },
+        _ => return usage(),
     };
 
     match written.and_then(|()| out.flush()) {
@@ -48,4 +47,17 @@ fn main() -> ExitCode {
             ExitCode::FAILURE
         }
     }
+}
+
+fn usage() -> ExitCode {
+    eprintln!("{USAGE}");
+    ExitCode::from(2)
+}
+
+fn numbers(words: [&str; 4]) -> Option<[u32; 4]> {
+    let numbers = words.map(|word| word.parse().ok());
+    let [Some(a), Some(b), Some(c), Some(d)] = numbers else {
+        return None;
+    };
+    Some([a, b, c, d])
 }

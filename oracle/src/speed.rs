@@ -1,42 +1,117 @@
-//! The speed driver's other half: the same seeded takes and returns that the
-//! Rattle program `speed` makes, so that both can be timed, and their sums
-//! compared.
+//! The speed drivers' other half: the same seeded takes and returns that the
+//! Rattle programs `speed_in_place` and `speed_by_value` make, so that all can
+//! be timed, and their sums compared.
 
 use std::io::{self, Write};
 
-use offset_allocator::Allocator;
+use offset_allocator::{Allocation, Allocator};
 
-const STORE: u32 = 4 << 20;
-const RECORDS: u32 = 16_384;
+/// As often a take as a return, by the toss of a coin; what goes back is drawn.
+const TOSS: u32 = 1;
+
+/// So many takes, then as many returns, the last one first.
+const BURSTS: u32 = 2;
+const BURST: u32 = 64;
+
+/// So many spans are out, and then one that is drawn is replaced by another
+/// again and again.
+const LIVE_SET: u32 = 3;
+const LIVE: u32 = 256;
+
+/// Spans are taken until one is refused, and then replaced as in a live set; a
+/// refusal makes the set smaller.
+const FULL: u32 = 4;
+
 const LARGEST: u32 = 2_000;
+
+/// As many spans as the port's tables have records are out at most.
+const MOST: u32 = 131_072;
 
 /// What a refused take adds to the sum.
 const REFUSED: u32 = u32::MAX;
 
-/// `calls` takes and returns; the sum of all answers, and how many spans are out at the end.
-pub fn write(out: &mut impl Write, calls: u32) -> io::Result<()> {
-    let mut allocator: Allocator<u32> = Allocator::with_max_allocs(STORE, RECORDS);
-    let mut held = Vec::with_capacity(RECORDS as usize);
-    let mut seed = 1;
-    let mut sum = 0;
-    for _ in 0..calls {
-        let take = high_half(seed) % 2 == 0;
-        seed = next(seed);
-        if take {
-            match allocator.allocate(1 + high_half(seed) % LARGEST) {
-                Some(span) => {
-                    sum = mix(mix(sum, span.offset), span.metadata.into());
-                    held.push(span);
-                }
-                None => sum = mix(sum, REFUSED),
-            }
-        } else if !held.is_empty() {
-            let at = high_half(seed) as usize % held.len();
-            allocator.free(held.swap_remove(at));
+/// What is drawn and what came of it so far.
+struct Draws {
+    run: u32,
+    /// The number of spans below which the next call takes; a toss does not
+    /// ask it.
+    top: u32,
+    seed: u32,
+    sum: u32,
+    held: Vec<Allocation<u32>>,
+}
+
+impl Draws {
+    fn new(run: u32, records: u32) -> Draws {
+        let top = match run {
+            BURSTS => BURST,
+            LIVE_SET => LIVE,
+            _ => MOST,
+        };
+        let held = Vec::with_capacity(records as usize);
+        Draws { run, top, seed: 1, sum: 0, held }
+    }
+
+    fn out(&self) -> u32 {
+        self.held.len() as u32
+    }
+
+    fn is_take(&self) -> bool {
+        if self.run == TOSS {
+            return high_half(self.seed) % 2 == 0;
+        }
+        self.out() < self.top
+    }
+
+    fn granted(&mut self, span: Allocation<u32>) {
+        self.sum = mix(mix(self.sum, span.offset), span.metadata.into());
+        self.held.push(span);
+        if self.run == BURSTS && self.out() == BURST {
+            self.top = 0;
         }
     }
-    writeln!(out, "sum {sum}")?;
-    writeln!(out, "held {}", held.len())
+
+    fn refused(&mut self) {
+        self.sum = mix(self.sum, REFUSED);
+        self.top = self.out();
+    }
+
+    /// The span that goes back: the last, or one that was drawn, of many from a
+    /// whole word.
+    fn going_back(&mut self) -> Allocation<u32> {
+        let at = match self.run {
+            BURSTS => self.out() - 1,
+            FULL => word(self.seed) % self.out(),
+            _ => high_half(self.seed) % self.out(),
+        };
+        let span = self.held.swap_remove(at as usize);
+        if self.run == BURSTS && self.held.is_empty() {
+            self.top = BURST;
+        }
+        span
+    }
+}
+
+/// A run of `calls` takes and returns in a store of this size with so many
+/// records; the sum of all answers, and how many spans are out at the end.
+pub fn write(out: &mut impl Write, run: u32, size: u32, records: u32, calls: u32) -> io::Result<()> {
+    let mut allocator: Allocator<u32> = Allocator::with_max_allocs(size, records);
+    let mut draws = Draws::new(run, records);
+    for _ in 0..calls {
+        let take = draws.is_take();
+        draws.seed = next(draws.seed);
+        if take {
+            match allocator.allocate(1 + high_half(draws.seed) % LARGEST) {
+                Some(span) => draws.granted(span),
+                None => draws.refused(),
+            }
+        } else if !draws.held.is_empty() {
+            let span = draws.going_back();
+            allocator.free(span);
+        }
+    }
+    writeln!(out, "sum {}", draws.sum)?;
+    writeln!(out, "held {}", draws.held.len())
 }
 
 /// A linear congruential generator, whose high half is good enough for sizes.
@@ -46,6 +121,12 @@ fn next(seed: u32) -> u32 {
 
 fn high_half(seed: u32) -> u32 {
     seed >> 16
+}
+
+/// All 32 bits of a word: the high halves of the next two seeds.
+fn word(seed: u32) -> u32 {
+    let first = next(seed);
+    high_half(first) << 16 | high_half(next(first))
 }
 
 fn mix(sum: u32, answer: u32) -> u32 {

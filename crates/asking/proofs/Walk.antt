@@ -4,7 +4,8 @@ use Rattle.ledger.specs.Ledger.{Answer}
 use Rattle.ledger.specs.Calls.{Question}
 use Rattle.tables.specs.Words.{Words}
 use Rattle.tables.specs.Gate.{gateOf}
-use Rattle.tables.specs.Calls.{edition32, toldBy, behind, answerWords}
+use Rattle.tables.specs.Questions.{toldBy}
+use Rattle.tables.specs.Calls.{edition32, behind, answerWords}
 use Rattle.tables.proofs.Gate.{gated-open}
 use Rattle.asking.specs.Answers.{Answered}
 

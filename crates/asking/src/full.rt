@@ -13,6 +13,7 @@ ghost use Rattle.answers.specs.Answers.{fullSays, FiguresOfZero, AllPlaces};
 ghost use Rattle.asking.specs.Answers.{walkedOf};
 use answers::FullAnswer;
 use answers::FullOutcome;
+use answers::Handle;
 use answers::Refusal;
 use bins::nodes;
 use bins::totals::Totals;
@@ -51,17 +52,18 @@ fn class_sizes() -> [u64; 256]
 }
 
 // How many records the list from `first` on has. A circular list would have no end, so no more steps are made than there are records.
-fn list_length(nodes: &[u32], max_allocs: u32, first: u32) -> Walked
+fn list_length(nodes: &[u32], max_allocs: u32, first: Handle) -> Walked
     requires { ⌜ HasRoom «max_allocs» (now nodes) ⌝ }
-    ensures { λ r. ⌜ walkedOf r ≡ listLength «max_allocs» (now (nodes .entry)) «max_allocs» first 0 ⌝ }
+    ensures { λ r. ⌜ walkedOf r ≡ listLength «max_allocs» (now (nodes .entry)) «max_allocs» (first .0) 0 ⌝ }
 {
-    let mut node = first;
+    let start = first.0;
+    let mut node = start;
     let mut n: u32 = 0;
     while node < max_allocs {
         if max_allocs <= n {
             return Walked::Lost;
         }
-        node = nodes::word(nodes, node, nodes::BIN_LIST_NEXT);
+        node = nodes::word(nodes, Handle(node), nodes::BIN_LIST_NEXT);
         n += 1;
     }
     Walked::Steps(n)
@@ -79,7 +81,8 @@ pub fn count(t: Totals, bin_indices: &[u32; 256], nodes: &[u32]) -> FullAnswer
     let mut counts = [0u32; 256];
     let mut i: usize = 0;
     while i < 256 {
-        let walked = list_length(nodes, t.max_allocs, bin_indices[i]);
+        let top = bin_indices[i];
+        let walked = list_length(nodes, t.max_allocs, Handle(top));
         let Walked::Steps(n) = walked else {
             return refuse(Refusal::Unsound);
         };

@@ -34,8 +34,8 @@ pub fn allocation_size(
     match bins::gate::test(t.max_allocs, nodes, free_nodes, Refusal::Unsound) {
         Gate::Shut(why) => SizeAnswer::Refused(why),
         Gate::Open => {
-            if bins::live::is_live(nodes, t.max_allocs, handle.0) {
-                return SizeAnswer::Length(Size(nodes::word(nodes, handle.0, nodes::DATA_SIZE)));
+            if bins::live::is_live(nodes, t.max_allocs, handle) {
+                return SizeAnswer::Length(Size(nodes::word(nodes, handle, nodes::DATA_SIZE)));
             }
             SizeAnswer::Refused(Refusal::NotLive)
         }

@@ -24,11 +24,11 @@ fn figures(total: u32, largest: Size) -> ReportAnswer
 }
 
 // A class that a region can have.
-fn report_class(t: Totals, c: u32) -> ReportAnswer
-    ensures { λ a. ⌜ reportSays a ≡ reportClass (wordsOf t [] [] [] []) c ⌝ }
+fn report_class(t: Totals, c: Class) -> ReportAnswer
+    ensures { λ a. ⌜ reportSays a ≡ reportClass (wordsOf t [] [] [] []) (c .0) ⌝ }
 {
-    if c < small_float::CLASSES_IN_USE {
-        return figures(t.free_storage, small_float::float_to_uint(Class(c)));
+    if c.0 < small_float::CLASSES_IN_USE {
+        return figures(t.free_storage, small_float::float_to_uint(c));
     }
     ReportAnswer::Refused(Refusal::Unsound)
 }
@@ -41,7 +41,8 @@ fn report_leaf(t: Totals, top: u32, m: u32) -> ReportAnswer
     if m == 0 {
         return ReportAnswer::Refused(Refusal::Unsound);
     }
-    report_class(t, 8 * top + search::highest_bit_set(m))
+    let class = 8 * top + search::highest_bit_set(m);
+    report_class(t, Class(class))
 }
 
 fn report_top(t: Totals, used_bins: &[u8; 32], top: u32) -> ReportAnswer

@@ -7,9 +7,9 @@ use lib.Dec.{eqb, ltb}
 use lib.ListN.{length, take, replicate}
 use Rattle.ledger.specs.Ledger as ledger
 use Rattle.tables.specs.Calls.{edition32}
-use Rattle.bins.specs.InWords.{wordsOf}
+use Rattle.bins.specs.InWords.{wordsOf, zeroTotals}
 use Rattle.bins.specs.declared.totals.Totals.{Totals}
-use Rattle.auditing.specs.Audit.{auditWords}
+use Rattle.audit_words.specs.Audit.{auditWords}
 use Rattle.replay.specs.declared.tally.Verdict.{Verdict}
 use Rattle.replay.specs.declared.tally.Verdict.the-variants.{Agrees, Differs}
 use Rattle.audit_replay.specs.declared.state.State.{State}
@@ -17,7 +17,7 @@ use Rattle.audit_replay.specs.declared.state.State.{State}
 -- before the list's first store
 abbrev pub noStore : State
 noStore = record {
-  totals = record { size = 0; «max_allocs» = 0; «free_storage» = 0; «free_offset» = 0; «used_bins_top» = 0 };
+  totals = zeroTotals;
   nodes = 0;
   pile = 0;
   scratch = 0;

@@ -16,14 +16,14 @@ use Rattle.answers.proofs.Numbers.{above-0}
 use Rattle.bins.specs.declared.gate.Gate.{Gate}
 use Rattle.bins.specs.declared.gate.Gate.the-variants.{Shut}
 use Rattle.bins.specs.InWords.{gateNumber}
-use Rattle.auditing.specs.declared.chain.Walk.{Walk}
-use Rattle.auditing.specs.Scratch.{cleared}
-use Rattle.auditing.specs.Spares.{markFrom}
-use Rattle.auditing.specs.Chain.{firstRecord, walkFrom, started, walkEnds}
-use Rattle.auditing.specs.Lists.{listsFrom}
-use Rattle.auditing.specs.Bits.{bitsAgree}
-use Rattle.auditing.specs.Audit.{chainWalk, endIsSound, recordsAreSound, pileIsSound, wordsAreSound, verdict, behindGate, auditWords}
-use Rattle.auditing.proofs.Cleared.{cleared-twice}
+use Rattle.audit_words.specs.declared.Walk.{Walk}
+use Rattle.audit_words.specs.Scratch.{cleared}
+use Rattle.audit_words.specs.Spares.{markFrom}
+use Rattle.audit_words.specs.Chain.{firstRecord, walkFrom, started, walkEnds}
+use Rattle.audit_words.specs.Lists.{listsFrom}
+use Rattle.audit_words.specs.Bits.{bitsAgree}
+use Rattle.audit_words.specs.Audit.{chainWalk, endIsSound, recordsAreSound, pileIsSound, wordsAreSound, verdict, behindGate, auditWords}
+use Rattle.audit_words.proofs.Cleared.{cleared-twice}
 
 -- ---- chain, lists and bits
 pub chain-walked : (E : Edition) (w : Words) (marks : List ℕ) {first : ℕ} {end : Walk} → first ≡ firstRecord E (w .count) (w .nodes) marks 0

@@ -6,20 +6,19 @@ ghost use lib.ListN.{length};
 ghost use Rattle.tables.specs.Calls.{edition32};
 ghost use Rattle.tables.specs.Room.{Room, OfHead};
 ghost use Rattle.bins.specs.InWords.{wordsOf, HasRoom};
-ghost use Rattle.auditing.specs.Scratch.{cleared};
-ghost use Rattle.auditing.specs.Audit.{recordsAreSound, wordsAreSound, behindGate};
-ghost use Rattle.auditing.specs.Promise.{AuditPromise};
+ghost use Rattle.audit_words.specs.Scratch.{cleared};
+ghost use Rattle.audit_words.specs.Audit.{recordsAreSound, wordsAreSound, behindGate};
+ghost use Rattle.audit_words.specs.Promise.{AuditPromise};
 ghost use Rattle.answers.specs.Answers.{auditSays};
 use answers::AuditAnswer;
 use answers::Refusal;
+use audit_chain::chain;
+use audit_chain::scratch;
+use audit_chain::spares;
+use audit_lists::bits;
+use audit_lists::lists;
 use bins::gate::Gate;
 use bins::totals::Totals;
-
-mod bits;
-mod chain;
-mod lists;
-mod scratch;
-mod spares;
 
 // Chain, lists and bits, once the spare records are marked.
 fn records_are_sound(
@@ -75,7 +74,7 @@ fn words_are_sound(
 }
 
 fn verdict(sound: bool) -> AuditAnswer
-    ensures { λ a. ⌜ auditSays a ≡ Rattle.auditing.specs.Audit.verdict sound ⌝ }
+    ensures { λ a. ⌜ auditSays a ≡ Rattle.audit_words.specs.Audit.verdict sound ⌝ }
 {
     if sound {
         return AuditAnswer::Sound;

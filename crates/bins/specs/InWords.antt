@@ -23,6 +23,20 @@ wordsOf t heads leaves nodes pile = record {
   pile = pile;
 }
 
+-- and back: the totals in words
+abbrev pub totalsIn : Words → Totals
+totalsIn w = record {
+  size = w .size;
+  «max_allocs» = w .count;
+  «free_storage» = w .freeStorage;
+  «free_offset» = w .freeOffset;
+  «used_bins_top» = w .usedBinsTop;
+}
+
+-- the totals that a refused setup gives
+abbrev pub zeroTotals : Totals
+zeroTotals = record { size = 0; «max_allocs» = 0; «free_storage» = 0; «free_offset» = 0; «used_bins_top» = 0 }
+
 -- n records, with the base's marker of an absent link
 abbrev pub bound : ℕ → Bounds
 bound n = record { n = n; none = edition32 .none }

@@ -3,51 +3,71 @@ ghost use mathlib.Core.Path.{_≡_};
 ghost use Prim.Native.Nat.{ℕ, _<_};
 ghost use mathlib.Core.List.{List};
 ghost use lib.ListN.{getD};
-ghost use Rattle.tables.specs.Layout.{dataOffset, dataSize, put};
+ghost use Rattle.tables.specs.Layout.{dataOffset, dataSize, binPrev, binNext, neighborPrev, neighborNext, put};
 ghost use Rattle.tables.specs.Steps.{insertNodes, joinNodes, insertAt, insert};
 ghost use Rattle.bins.specs.InWords.{wordsOf, bound, HasRoom, InTable};
 use crate::nodes;
 use crate::nodes::NONE;
 use crate::totals::Totals;
+use answers::Handle;
+use small_float::Class;
 use small_float::Size;
 
 // Where the region of record m lies.
-fn write_span(nodes: &mut [u32], m: u32, size: u32, offset: u32)
-    requires { ⌜ InTable m (now nodes) ⌝ }
-    ensures { λ _. ⌜ now (nodes .exit) ≡ put m dataSize size (put m dataOffset offset (now (nodes .entry))) ⌝ }
+fn write_span(nodes: &mut [u32], m: Handle, size: Size, offset: u32)
+    requires { ⌜ InTable (m .0) (now nodes) ⌝ }
+    ensures { λ _. ⌜ now (nodes .exit) ≡ put (m .0) dataSize (size .0) (put (m .0) dataOffset offset (now (nodes .entry))) ⌝ }
 {
     nodes::put(nodes, m, nodes::DATA_OFFSET, offset);
-    nodes::put(nodes, m, nodes::DATA_SIZE, size);
+    nodes::put(nodes, m, nodes::DATA_SIZE, size.0);
+}
+
+// The links of record m: in the list of its class, and to its neighbours.
+fn write_links(
+    nodes: &mut [u32],
+    m: Handle,
+    list_prev: Handle,
+    list_next: Handle,
+    prev: Handle,
+    next: Handle,
+)
+    requires { ⌜ InTable (m .0) (now nodes) ⌝ }
+    ensures { λ _. ⌜ now (nodes .exit)
+        ≡ put (m .0) neighborNext (next .0) (put (m .0) neighborPrev (prev .0)
+        (put (m .0) binNext («list_next» .0) (put (m .0) binPrev («list_prev» .0) (now (nodes .entry))))) ⌝ }
+{
+    nodes::put(nodes, m, nodes::BIN_LIST_PREV, list_prev.0);
+    nodes::put(nodes, m, nodes::BIN_LIST_NEXT, list_next.0);
+    nodes::put(nodes, m, nodes::NEIGHBOR_PREV, prev.0);
+    nodes::put(nodes, m, nodes::NEIGHBOR_NEXT, next.0);
 }
 
 // The seven words of record m, which goes on top of its list, and the old top's link back to it.
 fn write_record(
     nodes: &mut [u32],
     max_allocs: u32,
-    m: u32,
-    size: u32,
+    m: Handle,
+    size: Size,
     offset: u32,
-    old_top: u32,
-    prev: u32,
-    next: u32,
+    old_top: Handle,
+    prev: Handle,
+    next: Handle,
 )
-    requires { ⌜ InTable m (now nodes) ⌝ }
+    requires { ⌜ InTable (m .0) (now nodes) ⌝ }
     requires { ⌜ HasRoom «max_allocs» (now nodes) ⌝ }
-    ensures { λ _. ⌜ now (nodes .exit) ≡ insertNodes (bound «max_allocs») m size offset «old_top» prev next (now (nodes .entry)) ⌝ }
+    ensures { λ _. ⌜ now (nodes .exit)
+        ≡ insertNodes (bound «max_allocs») (m .0) (size .0) offset («old_top» .0) (prev .0) (next .0) (now (nodes .entry)) ⌝ }
 {
     write_span(nodes, m, size, offset);
-    nodes::put(nodes, m, nodes::BIN_LIST_PREV, NONE);
-    nodes::put(nodes, m, nodes::BIN_LIST_NEXT, old_top);
-    nodes::put(nodes, m, nodes::NEIGHBOR_PREV, prev);
-    nodes::put(nodes, m, nodes::NEIGHBOR_NEXT, next);
+    write_links(nodes, m, Handle(NONE), old_top, prev, next);
     nodes::put(nodes, m, nodes::USED, 0);
     nodes::put_link(nodes, max_allocs, old_top, nodes::BIN_LIST_PREV, m);
 }
 
 // The neighbours' links to record m.
-fn join_neighbors(nodes: &mut [u32], max_allocs: u32, m: u32, prev: u32, next: u32)
+fn join_neighbors(nodes: &mut [u32], max_allocs: u32, m: Handle, prev: Handle, next: Handle)
     requires { ⌜ HasRoom «max_allocs» (now nodes) ⌝ }
-    ensures { λ _. ⌜ now (nodes .exit) ≡ joinNodes (bound «max_allocs») m prev next (now (nodes .entry)) ⌝ }
+    ensures { λ _. ⌜ now (nodes .exit) ≡ joinNodes (bound «max_allocs») (m .0) (prev .0) (next .0) (now (nodes .entry)) ⌝ }
 {
     nodes::put_link(nodes, max_allocs, prev, nodes::NEIGHBOR_NEXT, m);
     nodes::put_link(nodes, max_allocs, next, nodes::NEIGHBOR_PREV, m);
@@ -58,29 +78,30 @@ fn insert_into_class(
     used_bins: &mut [u8; 32],
     nodes: &mut [u32],
     t: Totals,
-    size: u32,
+    size: Size,
     offset: u32,
-    c: u32,
-    m: u32,
-    prev: u32,
-    next: u32,
+    c: Class,
+    m: Handle,
+    prev: Handle,
+    next: Handle,
 ) -> Totals
-    requires { ⌜ c < 256 ⌝ }
-    requires { ⌜ InTable m (now nodes) ⌝ }
+    requires { ⌜ c .0 < 256 ⌝ }
+    requires { ⌜ InTable (m .0) (now nodes) ⌝ }
     requires { ⌜ HasRoom (t .«max_allocs») (now nodes) ⌝ }
     ensures { λ u. ⌜ ((ps : List ℕ) →
         wordsOf u (now («bin_indices» .exit)) (now («used_bins» .exit)) (now (nodes .exit)) ps
         ≡ insertAt (bound (t .«max_allocs»))
         (wordsOf t (now («bin_indices» .entry)) (now («used_bins» .entry)) (now (nodes .entry)) ps)
-        size offset c (getD (now («bin_indices» .entry)) c 0) m prev next) ⌝ }
+        (size .0) offset (c .0) (getD (now («bin_indices» .entry)) (c .0) 0) (m .0) (prev .0) (next .0)) ⌝ }
 {
-    let i = c as usize;
-    let old_top = bin_indices[i];
+    let i = c.0 as usize;
+    let top_link = bin_indices[i];
+    let old_top = Handle(top_link);
     let max_allocs = t.max_allocs;
     let top = bitmap::bits::mark(used_bins, t.used_bins_top, max_allocs, c, old_top);
     write_record(nodes, max_allocs, m, size, offset, old_top, prev, next);
     join_neighbors(nodes, max_allocs, m, prev, next);
-    bin_indices[i] = m;
+    bin_indices[i] = m.0;
     t.with_used_bins_top(top)
 }
 
@@ -90,21 +111,20 @@ pub fn insert_node_into_bin(
     used_bins: &mut [u8; 32],
     nodes: &mut [u32],
     t: Totals,
-    size: u32,
+    size: Size,
     offset: u32,
-    m: u32,
-    prev: u32,
-    next: u32,
+    m: Handle,
+    prev: Handle,
+    next: Handle,
 ) -> Totals
-    requires { ⌜ InTable m (now nodes) ⌝ }
+    requires { ⌜ InTable (m .0) (now nodes) ⌝ }
     requires { ⌜ HasRoom (t .«max_allocs») (now nodes) ⌝ }
     ensures { λ u. ⌜ ((ps : List ℕ) →
         wordsOf u (now («bin_indices» .exit)) (now («used_bins» .exit)) (now (nodes .exit)) ps
         ≡ insert (bound (t .«max_allocs»))
-        (wordsOf t (now («bin_indices» .entry)) (now («used_bins» .entry)) (now (nodes .entry)) ps) size offset m prev next) ⌝ }
+        (wordsOf t (now («bin_indices» .entry)) (now («used_bins» .entry)) (now (nodes .entry)) ps) (size .0) offset (m .0) (prev .0) (next .0)) ⌝ }
 {
-    let class = small_float::uint_to_float_round_down(Size(size));
-    let c = class.0;
+    let class = crate::class::class_of(size);
     insert_into_class(
         bin_indices,
         used_bins,
@@ -112,7 +132,7 @@ pub fn insert_node_into_bin(
         t,
         size,
         offset,
-        c,
+        class,
         m,
         prev,
         next,

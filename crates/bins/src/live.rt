@@ -3,13 +3,14 @@ ghost use mathlib.Core.Path.{_≡_};
 ghost use Rattle.tables.specs.HandBack.{isLive, isFree};
 ghost use Rattle.bins.specs.InWords.{HasRoom};
 use crate::nodes;
+use answers::Handle;
 
 // A record below the count that is marked live.
-pub fn is_live(nodes: &[u32], max_allocs: u32, node: u32) -> bool
+pub fn is_live(nodes: &[u32], max_allocs: u32, node: Handle) -> bool
     requires { ⌜ HasRoom «max_allocs» (now nodes) ⌝ }
-    ensures { λ v. ⌜ v ≡ isLive (now (nodes .entry)) «max_allocs» node ⌝ }
+    ensures { λ v. ⌜ v ≡ isLive (now (nodes .entry)) «max_allocs» (node .0) ⌝ }
 {
-    if node < max_allocs {
+    if node.0 < max_allocs {
         if nodes::word(nodes, node, nodes::USED) == 0 {
             return false;
         }
@@ -19,11 +20,11 @@ pub fn is_live(nodes: &[u32], max_allocs: u32, node: u32) -> bool
 }
 
 // A link that names a record which is not live: a neighbour to merge with.
-pub fn is_free(nodes: &[u32], max_allocs: u32, link: u32) -> bool
+pub fn is_free(nodes: &[u32], max_allocs: u32, link: Handle) -> bool
     requires { ⌜ HasRoom «max_allocs» (now nodes) ⌝ }
-    ensures { λ v. ⌜ v ≡ isFree (now (nodes .entry)) «max_allocs» link ⌝ }
+    ensures { λ v. ⌜ v ≡ isFree (now (nodes .entry)) «max_allocs» (link .0) ⌝ }
 {
-    if link < max_allocs {
+    if link.0 < max_allocs {
         return nodes::word(nodes, link, nodes::USED) == 0;
     }
     false

@@ -9,18 +9,21 @@ ghost use Rattle.tables.specs.Steps.{unlinkAt, unlink};
 ghost use Rattle.bins.specs.InWords.{wordsOf, bound, HasRoom, InTable};
 use crate::nodes;
 use crate::totals::Totals;
+use answers::Handle;
+use small_float::Class;
 use small_float::Size;
 
 // The class's top is the record after the one that leaves, unless one stands before it.
-fn lead(bin_indices: &mut [u32; 256], max_allocs: u32, c: u32, prev: u32, next: u32)
-    requires { ⌜ c < 256 ⌝ }
-    ensures { λ _. ⌜ now («bin_indices» .exit) ≡ cond (ltb prev «max_allocs») (now («bin_indices» .entry)) (set (now («bin_indices» .entry)) c next) ⌝ }
+fn lead(bin_indices: &mut [u32; 256], max_allocs: u32, c: Class, prev: Handle, next: Handle)
+    requires { ⌜ c .0 < 256 ⌝ }
+    ensures { λ _. ⌜ now («bin_indices» .exit)
+        ≡ cond (ltb (prev .0) «max_allocs») (now («bin_indices» .entry)) (set (now («bin_indices» .entry)) (c .0) (next .0)) ⌝ }
 {
-    if prev < max_allocs {
+    if prev.0 < max_allocs {
         return;
     }
-    let i = c as usize;
-    bin_indices[i] = next;
+    let i = c.0 as usize;
+    bin_indices[i] = next.0;
 }
 
 // A record of class c leaves its list, where it stands between prev and next.
@@ -29,16 +32,16 @@ pub fn remove_from_class(
     used_bins: &mut [u8; 32],
     nodes: &mut [u32],
     t: Totals,
-    c: u32,
-    prev: u32,
-    next: u32,
+    c: Class,
+    prev: Handle,
+    next: Handle,
 ) -> Totals
-    requires { ⌜ c < 256 ⌝ }
+    requires { ⌜ c .0 < 256 ⌝ }
     requires { ⌜ HasRoom (t .«max_allocs») (now nodes) ⌝ }
     ensures { λ u. ⌜ ((ps : List ℕ) →
         wordsOf u (now («bin_indices» .exit)) (now («used_bins» .exit)) (now (nodes .exit)) ps
         ≡ unlinkAt (bound (t .«max_allocs»))
-        (wordsOf t (now («bin_indices» .entry)) (now («used_bins» .entry)) (now (nodes .entry)) ps) c prev next) ⌝ }
+        (wordsOf t (now («bin_indices» .entry)) (now («used_bins» .entry)) (now (nodes .entry)) ps) (c .0) (prev .0) (next .0)) ⌝ }
 {
     let max_allocs = t.max_allocs;
     let top = bitmap::bits::unmark(used_bins, t.used_bins_top, max_allocs, c, prev, next);
@@ -54,21 +57,17 @@ pub fn remove_node_from_bin(
     used_bins: &mut [u8; 32],
     nodes: &mut [u32],
     t: Totals,
-    node: u32,
+    node: Handle,
 ) -> Totals
-    requires { ⌜ InTable node (now nodes) ⌝ }
+    requires { ⌜ InTable (node .0) (now nodes) ⌝ }
     requires { ⌜ HasRoom (t .«max_allocs») (now nodes) ⌝ }
     ensures { λ u. ⌜ ((ps : List ℕ) →
         wordsOf u (now («bin_indices» .exit)) (now («used_bins» .exit)) (now (nodes .exit)) ps
-        ≡ unlink (bound (t .«max_allocs»)) (wordsOf t (now («bin_indices» .entry)) (now («used_bins» .entry)) (now (nodes .entry)) ps) node) ⌝ }
+        ≡ unlink (bound (t .«max_allocs»)) (wordsOf t (now («bin_indices» .entry)) (now («used_bins» .entry)) (now (nodes .entry)) ps) (node .0)) ⌝ }
 {
-    let class = small_float::uint_to_float_round_down(Size(nodes::word(
-        nodes,
-        node,
-        nodes::DATA_SIZE,
-    )));
-    let c = class.0;
-    let prev = nodes::word(nodes, node, nodes::BIN_LIST_PREV);
-    let next = nodes::word(nodes, node, nodes::BIN_LIST_NEXT);
-    remove_from_class(bin_indices, used_bins, nodes, t, c, prev, next)
+    let size = Size(nodes::word(nodes, node, nodes::DATA_SIZE));
+    let class = crate::class::class_of(size);
+    let prev = Handle(nodes::word(nodes, node, nodes::BIN_LIST_PREV));
+    let next = Handle(nodes::word(nodes, node, nodes::BIN_LIST_NEXT));
+    remove_from_class(bin_indices, used_bins, nodes, t, class, prev, next)
 }

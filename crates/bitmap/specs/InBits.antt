@@ -1,4 +1,4 @@
--- What the steps on the two levels of bits leave, and the number that tells what a search found. Assumes nothing.
+-- What the steps on the two levels of bits leave, and what a search found. Assumes nothing.
 use mathlib.Core.Bool.{cond}
 use mathlib.Core.Path.{_≡_}
 use Prim.Native.Nat.{ℕ, _/_, _%_, _<_}
@@ -7,11 +7,18 @@ use lib.Dec.{ltb, eqb}
 use lib.ListN.{getD, set}
 use Rattle.tables.specs.Steps.{setBit, clearBit}
 use Rattle.tables.specs.Search.{Found, class-is, no-class, bad-bits}
+use Rattle.bitmap.specs.declared.search.Found.{Found as Search}
+use Rattle.bitmap.specs.declared.search.Found.the-variants.{Lowest, NoClass, BadBits}
 
 -- ---- the bits, as insertAt and unlinkAt of tables/specs have them: what top word and leaf bytes are after a step
 pub record Bits (top′ : ℕ) (leaves′ : List ℕ) (top : ℕ) (leaves : List ℕ) : Type 0 where
   pub top-is : top ≡ top′
   pub leaves-are : leaves ≡ leaves′
+
+-- told from the other side: what is left is one top word and one row of leaf bytes, these; proofs/Told.antt makes it
+pub record BitsMean : Type 0 where
+  pub bits-are : (top′ top : ℕ) (leaves′ leaves : List ℕ) → Bits top′ leaves′ top leaves → (top ≡ top′) × (leaves ≡ leaves′)
+  pub may-be-left : (top : ℕ) (leaves : List ℕ) → Bits top leaves top leaves
 
 -- class c gets its first record, unless its old top h is one of n
 abbrev pub Marked : (n top c h : ℕ) → (leaves : List ℕ) → ℕ → List ℕ → Type 0
@@ -35,13 +42,19 @@ Unmarked n top c p x leaves =
     (cond (ltb x n) top (cond (eqb (clearBit 8 (getD leaves (c / 8) 0) (c % 8)) 0) (clearBit 32 top (c / 8)) top)))
     (cond (ltb p n) leaves (cond (ltb x n) leaves (set leaves (c / 8) (clearBit 8 (getD leaves (c / 8) 0) (c % 8)))))
 
--- ---- what a search found, as one number of the code: a class as itself, 256 for none, 257 for bits that contradict each other
-abbrev pub Tells : Found → ℕ → Type 0
-Tells (class-is c) n = (n ≡ c) × (n < 256)
-Tells no-class n = n ≡ 256
-Tells bad-bits n = n ≡ 257
+-- ---- what a search found, as the code has it: a class, which is one of the 256, or why there is none
+abbrev pub Tells : Found → Search → Type 0
+Tells (class-is c) (Lowest d) = (d .0 ≡ c) × (d .0 < 256)
+Tells (class-is c) NoClass = ⊥
+Tells (class-is c) BadBits = ⊥
+Tells no-class (Lowest d) = ⊥
+Tells no-class NoClass = Unit {0}
+Tells no-class BadBits = ⊥
+Tells bad-bits (Lowest d) = ⊥
+Tells bad-bits NoClass = ⊥
+Tells bad-bits BadBits = Unit {0}
 
--- told from the other side: a search has one number, and no two searches that found different things share one; proofs/Told.antt makes it
+-- told from the other side: a search is told in one way, and no two searches that found different things are told alike; proofs/Told.antt makes it
 pub record TellsMeans : Type 0 where
-  pub one-number : (f : Found) (m n : ℕ) → Tells f m → Tells f n → m ≡ n
-  pub none-shared : (f g : Found) (n : ℕ) → Tells f n → Tells g n → f ≡ g
+  pub one-way : (f : Found) (s t : Search) → Tells f s → Tells f t → s ≡ t
+  pub none-shared : (f g : Found) (s : Search) → Tells f s → Tells g s → f ≡ g

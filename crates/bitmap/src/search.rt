@@ -3,12 +3,14 @@ ghost use mathlib.Core.Path.{_≡_};
 ghost use Prim.Native.Nat.{_+_, _/_, _<_};
 ghost use Rattle.tables.specs.Search.{lowFrom, lowInBin, findClass, highBit};
 ghost use Rattle.bitmap.specs.InBits.{Tells};
+use small_float::Class;
 
-// No class was found.
-pub const NO_CLASS: u32 = 256;
-
-// The bits contradict each other: a top bit is set over a leaf byte of 0.
-pub const BAD_BITS: u32 = 257;
+pub enum Found {
+    Lowest(Class),
+    NoClass,
+    // the bits contradict each other: a top bit is set over a leaf byte of 0
+    BadBits,
+}
 
 pub fn wide(x: u8) -> u32
     ensures { λ r. ⌜ (r ≡ x) × (r < 256) ⌝ }
@@ -29,33 +31,37 @@ fn lowest_bit_set_from(m: u32, i: u32) -> u32
 }
 
 // The lowest class above the top bin of c: in the next top bin that holds something, and there from leaf 0 on, whatever leaf c has.
-fn lowest_above(used_bins: &[u8; 32], used_bins_top: u32, c: u32) -> u32
-    requires { ⌜ c < 248 ⌝ }
-    ensures { λ r. ⌜ Tells (lowInBin (now («used_bins» .entry)) (lowFrom «used_bins_top» (c / 8 + 1))) r ⌝ }
+fn lowest_above(used_bins: &[u8; 32], used_bins_top: u32, c: Class) -> Found
+    requires { ⌜ c .0 < 248 ⌝ }
+    ensures { λ r. ⌜ Tells (lowInBin (now («used_bins» .entry)) (lowFrom «used_bins_top» (c .0 / 8 + 1))) r ⌝ }
 {
-    let t = lowest_bit_set_from(used_bins_top, c / 8 + 1);
+    let from = c.0;
+    let t = lowest_bit_set_from(used_bins_top, from / 8 + 1);
     if t < 32 {
         let i = t as usize;
         let m = wide(used_bins[i]);
         if m == 0 {
-            return BAD_BITS;
+            return Found::BadBits;
         }
-        return 8 * t + lowest_bit_set_from(m, 0);
+        let class = 8 * t + lowest_bit_set_from(m, 0);
+        return Found::Lowest(Class(class));
     }
-    NO_CLASS
+    Found::NoClass
 }
 
 // The lowest class from c on that holds something: in the top bin of c from its own leaf on, or above it.
-pub fn find_class(used_bins: &[u8; 32], used_bins_top: u32, c: u32) -> u32
-    requires { ⌜ c < 248 ⌝ }
-    ensures { λ r. ⌜ Tells (findClass (now («used_bins» .entry)) «used_bins_top» c) r ⌝ }
+pub fn find_class(used_bins: &[u8; 32], used_bins_top: u32, c: Class) -> Found
+    requires { ⌜ c .0 < 248 ⌝ }
+    ensures { λ r. ⌜ Tells (findClass (now («used_bins» .entry)) «used_bins_top» (c .0)) r ⌝ }
 {
-    let t = c / 8;
+    let from = c.0;
+    let t = from / 8;
     let i = t as usize;
     let m = wide(used_bins[i]);
-    let l = lowest_bit_set_from(m, c % 8);
+    let l = lowest_bit_set_from(m, from % 8);
     if l < 8 {
-        return 8 * t + l;
+        let class = 8 * t + l;
+        return Found::Lowest(Class(class));
     }
     lowest_above(used_bins, used_bins_top, c)
 }

@@ -5,7 +5,7 @@ use Prim.Native.Nat.{ℕ}
 use Rattle.ledger.specs.Ledger as ledger
 use Rattle.tables.specs.Words.{Words}
 use Rattle.tables.specs.Calls.{edition32}
-use Rattle.auditing.specs.Promise.{AuditPromise}
+use Rattle.audit_words.specs.Promise.{AuditPromise}
 use Rattle.offset_allocator.specs.declared.head.Head.{Head}
 use Rattle.offset_allocator.specs.HeadWords.{headWords}
 use Rattle.judging.specs.declared.answer.Answer.{Answer}

@@ -1,6 +1,7 @@
 -- A call and an audit have one outcome: a store is found again from its words. Assumes nothing.
 use mathlib.Core.Path.{_≡_, sym, ap, _∙_}
 use Rattle.tables.specs.Words.{Words}
+use Rattle.bins.specs.InWords.{totalsIn}
 use Rattle.judging.specs.declared.answer.Answer.{Answer}
 use Rattle.judging.specs.declared.store.Store.{Store}
 use Rattle.judging.specs.declared.made.Made.{Made}
@@ -8,7 +9,7 @@ use Rattle.calling.specs.Made.{OneOutcome}
 
 abbrev storeIn : Words → Store
 storeIn w = record {
-  totals = record { size = w .size; «max_allocs» = w .count; «free_storage» = w .freeStorage; «free_offset» = w .freeOffset; «used_bins_top» = w .usedBinsTop };
+  totals = totalsIn w;
   «bin_indices» = w .binIndices;
   «used_bins» = w .usedBins;
   nodes = w .nodes;

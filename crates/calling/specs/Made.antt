@@ -9,7 +9,7 @@ use Rattle.tables.specs.Words.{Words}
 use Rattle.tables.specs.Setup.{Lent, lentOf, tablesAlone, setupWords}
 use Rattle.tables.specs.Calls.{edition32, answerWords}
 use Rattle.bins.specs.InWords.{wordsOf}
-use Rattle.auditing.specs.Audit.{auditWords}
+use Rattle.audit_words.specs.Audit.{auditWords}
 use Rattle.judging.specs.declared.answer.Answer.{Answer}
 use Rattle.judging.specs.declared.answer.Answer.the-variants.{Nothing}
 use Rattle.judging.specs.declared.call.Call.{Call}

@@ -4,7 +4,11 @@ use mathlib.Core.Logic.{inl, inr}
 use mathlib.Core.List.{List, [], _∷_}
 use Prim.Native.Nat.{ℕ, _^_, _≤_, _<_}
 use native.Mathlib.Omega.{arith}
+use lib.Dec.{ltb}
 use lib.ListN.{length}
+use borrow.Author.Tests.{le-ltb}
+use Rattle.basics.specs.Sum.{one}
+use Rattle.basics.proofs.Decided.{below, beyond, below?}
 use Rattle.basics.proofs.Clash.{clash}
 use Rattle.ledger.specs.Ledger.{Ledger, Answer, done, refused, setup, by-class, Stacks}
 use Rattle.ledger.specs.Calls.{Event, event, answer, end, log, Reset}
@@ -26,8 +30,8 @@ use Rattle.tables.proofs.Gate.{Gated, bad-count, too-short, open-gate, gated?}
 use Rattle.tables.proofs.Claims as tables
 use Rattle.tables.proofs.Runs.{step-sound}
 use Rattle.tables.proofs.Given.{count-rows}
-use Rattle.auditing.specs.Promise.{AuditPromise}
-use Rattle.auditing.proofs.Claims as auditing
+use Rattle.audit_words.specs.Promise.{AuditPromise}
+use Rattle.audit_words.proofs.Claims as auditing
 use Rattle.demands.specs.Runs.{Done, did, Auditing, called, audited, set-up, Run, nothing, then, NoSetup, askedOf, answersOf, callsOf, logOf}
 use Rattle.demands.specs.Demands.{Begun, Since, SinceMeans, Demands, BaseDemands, ledgerAfter}
 use Rattle.demands.proofs.Twins.{twins, run-lengths}
@@ -127,10 +131,26 @@ module _ (E : Edition) where
     | inr (inr e) ↦ inr (inl (cc))
   ]
 
+-- a count is told by the numbers below it
+one-count : (m n : ℕ) → ((r : ℕ) → one (ltb r m) ≡ one (ltb r n)) → m ≡ n
+one-count m n h = elim (below? m n) [
+  | below l e ↦ absurd (omega (arith, h m, ap one (le-ltb m m (omega arith)), ap one e))
+  | beyond l e ↦ elim (below? n m) [
+    | below k f ↦ absurd (omega (arith, h n, ap one (le-ltb n n (omega arith)), ap one f))
+    | beyond k f ↦ omega arith
+  ]
+]
+
 pub since-means : (E : Edition) → SinceMeans E
 since-means E = record {
   begins = λ w l S. record { in-order = S .well; stands = S };
   goes-on = λ size count l w now ds b run n. record { begun = b; run = run; no-setup = n };
+  begun-says = λ size count l w b. (
+    sym (b .stands .well .lined .cover) ∙ b .in-order .lined .cover,
+    one-count (w .count) count (λ r. sym (b .stands .well .lined .once r) ∙ b .in-order .lined .once r),
+    b .stands,
+  );
+  since-says = λ size count l w now ds s. (s .begun, s .run, s .no-setup);
 }
 
 pub demands : (E : Edition) → Demands E

@@ -12,9 +12,9 @@ use Rattle.tables.specs.Calls.{answerWords}
 use Rattle.tables.proofs.Gate.{SetupCase, count-bad, too-large, table-short, accepted, setup-case}
 use Rattle.tables.proofs.Claims as tables
 use Rattle.tables.proofs.Promise.{promise, setup-promise}
-use Rattle.auditing.specs.Audit.{auditWords}
+use Rattle.audit_words.specs.Audit.{auditWords}
 use Rattle.tables.specs.Room.{OfHead}
-use Rattle.auditing.proofs.Promise.{audit-promise}
+use Rattle.audit_words.proofs.Promise.{audit-promise}
 use Rattle.demands.specs.Runs.{Asked, Calling, Auditing, SettingUp, Done, did, LentFrom, Step, called, audited, set-up, Run, nothing, then}
 use Rattle.demands.specs.Runs.{NoSetup, askedOf, answersOf, callsOf, logOf, SizesFit, RunMeans}
 

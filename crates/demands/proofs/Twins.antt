@@ -20,8 +20,8 @@ use Rattle.tables.specs.Promise.{Promise, SetupPromise}
 use Rattle.tables.proofs.Gate.{SetupCase, count-bad, too-large, table-short, accepted, setup-case}
 use Rattle.tables.proofs.SoundOf.{room-of}
 use Rattle.tables.proofs.Claims as tables
-use Rattle.auditing.specs.Promise.{AuditPromise}
-use Rattle.auditing.proofs.Claims as auditing
+use Rattle.audit_words.specs.Promise.{AuditPromise}
+use Rattle.audit_words.proofs.Claims as auditing
 use Rattle.demands.specs.Runs.{Asked, Done, LentFrom, Step, called, audited, set-up, Run, nothing, then, askedOf, answersOf}
 
 -- tables of one length

@@ -16,7 +16,7 @@ use Rattle.tables.specs.Calls.{edition32}
 use Rattle.tables.specs.Sound.{Sound}
 use Rattle.tables.specs.Claims.{OneOf, mayGive}
 use Rattle.tables.specs.Promise.{Promise, SetupPromise}
-use Rattle.auditing.specs.Promise.{AuditPromise}
+use Rattle.audit_words.specs.Promise.{AuditPromise}
 use Rattle.demands.specs.Runs.{Done, did, Auditing, Run, NoSetup, askedOf, answersOf, callsOf, logOf}
 
 -- document 01's ledger after the calls of a run that begins with l
@@ -39,6 +39,10 @@ pub record SinceMeans (E : Edition) : Type 0 where
   pub begins : (w : Words) (l : Ledger Stacks) → Sound E w l → Begun E (w .size) (w .count) l w
   pub goes-on : (size count : ℕ) (l : Ledger Stacks) (w now : Words) (ds : List Done) → Begun E size count l w → Run E w ds now → NoSetup ds
       → Since E size count l w ds now
+  -- and no less: the words have that size and that count, and the ledger stands in them; and what was done since is a run from there, without a setup
+  pub begun-says : (size count : ℕ) (l : Ledger Stacks) (w : Words) → Begun E size count l w → (w .size ≡ size) × (w .count ≡ count) × Sound E w l
+  pub since-says : (size count : ℕ) (l : Ledger Stacks) (w now : Words) (ds : List Done) → Since E size count l w ds now
+      → Begun E size count l w × Run E w ds now × NoSetup ds
 
 pub record Demands (E : Edition) : Type 0 where
   -- ---- 1. "each call ends with an answer or a numbered refusal": a refusal's number is one of those that document 01 gives for the call

@@ -10,9 +10,9 @@ use Rattle.tables.specs.Words.{Words, Edition}
 use Rattle.tables.specs.Setup.{Lent, setupWords}
 use Rattle.tables.specs.Calls.{answerWords}
 use Rattle.tables.specs.Promise.{Promise, SetupPromise}
-use Rattle.auditing.specs.Audit.{auditWords}
+use Rattle.audit_words.specs.Audit.{auditWords}
 use Rattle.tables.specs.Room.{OfHead}
-use Rattle.auditing.specs.Promise.{AuditPromise}
+use Rattle.audit_words.specs.Promise.{AuditPromise}
 
 -- ---- what can be asked: a call, an audit with a scratch of so many words, a setup
 pub data Asked : Type 0 where

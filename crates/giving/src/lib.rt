@@ -12,17 +12,16 @@ ghost use Rattle.tables.specs.Promise.{Promise};
 ghost use Rattle.answers.specs.Asked.{tokenOf};
 ghost use Rattle.bins.specs.InWords.{wordsOf, bound, HasRoom};
 ghost use Rattle.answers.specs.Answers.{backSays};
-ghost use Rattle.giving.specs.Answers.{outcomeOf, handedBack, mergedIn};
+ghost use Rattle.giving.specs.Answers.{outcomeOf, handedBack};
+ghost use Rattle.back_plan.specs.Plan.{mergedIn};
 use answers::BackAnswer;
 use answers::Handle;
 use answers::Refusal;
+use back_plan::Merged;
+use back_plan::Neighbor;
+use back_plan::Planned;
 use bins::gate::Gate;
 use bins::totals::Totals;
-use plan::Merged;
-use plan::Planned;
-
-mod commit;
-mod plan;
 
 pub struct Returned {
     pub answer: BackAnswer,
@@ -36,33 +35,20 @@ fn carry_out(
     used_bins: &mut [u8; 32],
     nodes: &mut [u32],
     free_nodes: &mut [u32],
-    prev: u32,
-    next: u32,
-    prev_free: bool,
-    next_free: bool,
+    prev: Neighbor,
+    next: Neighbor,
     m: Merged,
 ) -> Returned
     requires { ⌜ HasRoom (t .«max_allocs») (now nodes) ⌝ }
     requires { ⌜ t .«max_allocs» ≤ length (now «free_nodes») ⌝ }
-    requires { ⌜ MergeGuards (wordsOf t [] [] (now nodes) []) (m .record) prev next «prev_free» «next_free» (mergedIn m) ⌝ }
+    requires { ⌜ MergeGuards (wordsOf t [] [] (now nodes) []) (m .record .0) (prev .link .0) (next .link .0) (prev .free) (next .free) (mergedIn m) ⌝ }
     ensures { λ a. ⌜ backSays (a .answer) ≡ done ⌝ }
     ensures { λ a. ⌜ wordsOf (a .totals) (now («bin_indices» .exit)) (now («used_bins» .exit)) (now (nodes .exit)) (now («free_nodes» .exit))
         ≡ merging (bound (t .«max_allocs»))
         (wordsOf t (now («bin_indices» .entry)) (now («used_bins» .entry)) (now (nodes .entry)) (now («free_nodes» .entry)))
-        (m .record) prev next «prev_free» «next_free» (mergedIn m) ⌝ }
+        (m .record .0) (prev .link .0) (next .link .0) (prev .free) (next .free) (mergedIn m) ⌝ }
 {
-    let totals = commit::merge(
-        bin_indices,
-        used_bins,
-        nodes,
-        free_nodes,
-        t,
-        prev,
-        next,
-        prev_free,
-        next_free,
-        m,
-    );
+    let totals = back_commit::merge(bin_indices, used_bins, nodes, free_nodes, t, prev, next, m);
     Returned {
         answer: BackAnswer::Done,
         totals: totals,
@@ -76,19 +62,19 @@ fn give_back(
     used_bins: &mut [u8; 32],
     nodes: &mut [u32],
     free_nodes: &mut [u32],
-    r: u32,
+    r: Handle,
 ) -> Returned
     requires { ⌜ HasRoom (t .«max_allocs») (now nodes) ⌝ }
     requires { ⌜ t .«max_allocs» ≤ length (now «free_nodes») ⌝ }
     ensures { λ a. ⌜ outcomeOf a (now («bin_indices» .exit)) (now («used_bins» .exit)) (now (nodes .exit)) (now («free_nodes» .exit))
-        ≡ handedBack r (wordsOf t (now («bin_indices» .entry)) (now («used_bins» .entry)) (now (nodes .entry)) (now («free_nodes» .entry))) ⌝ }
+        ≡ handedBack (r .0) (wordsOf t (now («bin_indices» .entry)) (now («used_bins» .entry)) (now (nodes .entry)) (now («free_nodes» .entry))) ⌝ }
 {
-    match plan::plan(t, nodes, r) {
+    match back_plan::plan(t, nodes, r) {
         Planned::Stop(why) => Returned {
             answer: BackAnswer::Refused(why),
             totals: t,
         },
-        Planned::Merge(prev, next, prev_free, next_free, m) => carry_out(
+        Planned::Merge(prev, next, m) => carry_out(
             t,
             bin_indices,
             used_bins,
@@ -96,8 +82,6 @@ fn give_back(
             free_nodes,
             prev,
             next,
-            prev_free,
-            next_free,
             m,
         ),
     }
@@ -122,6 +106,6 @@ pub fn free(
             answer: BackAnswer::Refused(why),
             totals: t,
         },
-        Gate::Open => give_back(t, bin_indices, used_bins, nodes, free_nodes, handle.0),
+        Gate::Open => give_back(t, bin_indices, used_bins, nodes, free_nodes, handle),
     }
 }

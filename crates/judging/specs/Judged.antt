@@ -4,6 +4,7 @@ use mathlib.Core.Bool.{Bool, true, false, cond}
 use Prim.Native.Nat.{ℕ, _+_}
 use lib.Dec.{ltb}
 use lib.ListN.{replicate}
+use Rattle.bins.specs.InWords.{zeroTotals}
 use Rattle.judging.specs.declared.answer.Answer.{Answer}
 use Rattle.judging.specs.declared.answer.Answer.the-variants as answer
 use Rattle.judging.specs.declared.call.Call.{Call}
@@ -61,7 +62,7 @@ isSetUp call.Nothing = false
 -- the same arrays and tables beside totals of zeros; the same totals and tables beside arrays of zeros
 abbrev pub noTotals : Store → Store
 noTotals s = record {
-  totals = record { size = 0; «max_allocs» = 0; «free_storage» = 0; «free_offset» = 0; «used_bins_top» = 0 };
+  totals = zeroTotals;
   «bin_indices» = s .«bin_indices»;
   «used_bins» = s .«used_bins»;
   nodes = s .nodes;

@@ -4,12 +4,13 @@ use Rattle.ledger.specs.Laws.{Laws}
 use Prim.Native.Nat.{ℕ, _-_, _≤_}
 use native.Mathlib.Omega.{arith}
 use mathlib.Core.List.{List, [], _∷_}
-use Rattle.ledger.specs.Calls.{answer, end, Call, Take, HandBack, Reset, Ask}
+use Rattle.ledger.specs.Calls.{answer, end, Call}
 use Rattle.ledger.specs.WellFormed.{WellFormed}
 use Rattle.ledger.specs.Claims.{Reached}
 use Rattle.ledger.proofs.KeptLine.{cut-lined, merge-lined, setup-lined}
 use Rattle.ledger.proofs.KeptIndex.{cut-kept, merge-kept, setup-kept}
 use Rattle.ledger.proofs.Cases.{TakeCase, few-spares, no-region, serves, take-case, LiveCase, is-live, not-live, live-case}
+use Rattle.ledger.proofs.Outcomes.{CallCase, refuses, cuts, merges, resets, asks, call-case}
 
 module _ (E : Engine) (laws : Laws E) where
   module _ (size count : ℕ) where
@@ -37,10 +38,15 @@ module _ (E : Engine) (laws : Laws E) where
 
     pub call-well : (c : Call) (l : Ledger (E .Index)) → WellFormed E size count l → WellFormed E size count (answer E size count c l .1)
     unfolding answer
-    call-well (Take asked) l w = take-well size count (asked .size) l w
-    call-well (HandBack span) l w = hand-back-well size count (span .number) l w
-    call-well Reset l w = setup-well
-    call-well (Ask q) l w = w
+    call-well c l w = go (call-case E laws size count w c)
+      where
+        go : {c : Call} → CallCase E size count l c → WellFormed E size count (answer E size count c l .1)
+        go (refuses k h e) = rw e w
+        go (cuts {asked = asked} t e) = take-well size count (asked .size) l w
+        go (merges n before after b e) =
+            rw e record { lined = merge-lined E size count l b (w .lined); kept = merge-kept E laws l b (w .kept) }
+        go resets = setup-well
+        go asks = w
 
     pub end-well : (cs : List Call) (l : Ledger (E .Index)) → WellFormed E size count l → WellFormed E size count (end (answer E size count) cs l)
     unfolding answer end

@@ -1,20 +1,17 @@
 -- The number and the figures of what a call on a ledger in order answers. Assumes nothing.
 use mathlib.Core.Path.{_≡_, refl, sym, ap}
-use Prim.Native.Nat.{ℕ, _+_}
+use Prim.Native.Nat.{ℕ}
 use native.Mathlib.Omega.{arith}
 use mathlib.Core.Logic.{_↔_, _≢_}
-use mathlib.Core.List.{List, [], _∷_, map}
-use lib.ListN.{length, replicate, length-map}
+use lib.ListN.{length, replicate, length-replicate}
 use Rattle.ledger.specs.Ledger.{Engine, Ledger, Stacks, by-class, Answer, granted, done, length-is, reported, classes, refused}
-use Rattle.ledger.specs.Ledger.{numbersFrom, fullAt, fullOf, take, handBack, sizeOf}
 use Rattle.ledger.specs.Laws.{Laws}
-use Rattle.ledger.specs.Calls.{SizeOf, Report, FullReport, Call, Take, HandBack, Reset, Ask, answer}
-use Rattle.ledger.specs.Figures.{refusalOf, figureCount, inARow, figuresOf}
+use Rattle.ledger.specs.Calls.{Call, answer}
+use Rattle.ledger.specs.Figures.{refusalOf, figureCount, figuresOf}
 use Rattle.ledger.specs.WellFormed.{WellFormed}
 use Rattle.ledger.specs.Claims.{CanRefuse, too-few-spares, none-reaches, not-live, unknown}
-use Rattle.ledger.proofs.Numbers.{length-numbersFrom}
-use Rattle.ledger.proofs.Cases.{TakeCase, few-spares, no-region, serves, take-case, LiveCase, is-live, live-case}
-use Rattle.ledger.proofs.Cases as case
+use Rattle.ledger.proofs.Outcomes.{CallCase, refuses, cuts, merges, resets, asks, call-case}
+use Rattle.ledger.proofs.Questions.{told-figures}
 use Rattle.ledger.proofs.Refusals.{no-other}
 use Rattle.ledger.proofs.ByClass.{class-laws}
 
@@ -54,36 +51,15 @@ module _ (E : Engine) (laws : Laws E) (size count : ℕ) where
       → figuresOf c (answer E size count c l .0) ≡ replicate (figureCount c) 0
   figures-of-0 c l h = zeros c (answer E size count c l .0) h
 
-in-a-row : (rows : List (ℕ × ℕ)) → length (inARow rows) ≡ length rows + length rows
-unfolding inARow
-in-a-row [] = refl
-in-a-row (x ∷ rows) = omega (arith, in-a-row rows)
-
 module _ (size count : ℕ) where
   pub figures-all : (c : Call) (l : Ledger Stacks) → WellFormed by-class size count l
       → length (figuresOf c (answer by-class size count c l .0)) ≡ figureCount c
-  unfolding answer fullOf
-  figures-all (Take asked) l w = go (take-case by-class class-laws w (asked .size))
+  unfolding answer
+  figures-all c l w = go (call-case by-class class-laws size count w c)
     where
-      go : TakeCase by-class (asked .size) l → length (figuresOf (Take asked) (take by-class (asked .size) l .0)) ≡ 2
-      go (few-spares h e) = rw e
-      go (no-region h empty e) = rw e
-      go (serves t) = rw (t .outcome)
-  figures-all (HandBack span) l w = go (live-case by-class w (span .number))
-    where
-      go : LiveCase by-class (span .number) l → length (figuresOf (HandBack span) (handBack by-class (span .number) l .0)) ≡ 0
-      go (case.not-live h e q) = rw e
-      go (is-live n before after b e q) = rw e
-  figures-all (Ask (SizeOf span)) l w = go (live-case by-class w (span .number))
-    where
-      go : LiveCase by-class (span .number) l → length (figuresOf (Ask (SizeOf span)) (sizeOf (span .number) l)) ≡ 1
-      go (case.not-live h e q) = rw q
-      go (is-live n before after b e q) = rw q
-  figures-all (Ask Report) l w = refl
-  figures-all (Ask FullReport) l w = omega (
-    arith,
-    in-a-row (map (fullAt (l .index)) (numbersFrom 0 256)),
-    length-map (numbersFrom 0 256) (fullAt (l .index)),
-    length-numbersFrom 256 0,
-  )
-  figures-all Reset l w = refl
+      go : {c : Call} → CallCase by-class size count l c → length (figuresOf c (answer by-class size count c l .0)) ≡ figureCount c
+      go (refuses {c = c} k h e) = rw (e, length-replicate {A = ℕ} (figureCount c) 0)
+      go (cuts t e) = rw e
+      go (merges n before after b e) = rw e
+      go resets = refl
+      go (asks {q = q}) = told-figures size count q l w

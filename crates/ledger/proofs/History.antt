@@ -1,7 +1,7 @@
 -- The spans that are out by the history are the live regions, so with the free lengths they make the size. Assumes nothing.
-use Rattle.ledger.specs.Ledger.{Engine, Ledger, setup, take, handBack, report, Region, live, free, len, freeLen}
+use Rattle.ledger.specs.Ledger.{Engine, Ledger, setup, report, Region, live, free, len, freeLen, Answer, refused}
 use Rattle.ledger.specs.Laws.{Laws}
-use mathlib.Core.Path.{_≡_, refl, ap}
+use mathlib.Core.Path.{_≡_, refl, sym, ap, subst}
 use Prim.Native.Nat.{ℕ, _+_, _-_, _≤_}
 use native.Mathlib.Omega.{arith}
 use mathlib.Core.Bool.{_&&_}
@@ -19,7 +19,7 @@ use Rattle.ledger.specs.History.{Span, strike, note, outAfter, IsOut}
 use Rattle.ledger.proofs.Places.{Between, sum-at, at-weighs}
 use Rattle.ledger.proofs.Records.{once-in-line}
 use Rattle.ledger.proofs.LiveSums.{cut-adds, merge-takes}
-use Rattle.ledger.proofs.Cases.{TakeCase, few-spares, no-region, serves, take-case, LiveCase, is-live, not-live, live-case}
+use Rattle.ledger.proofs.Outcomes.{CallCase, refuses, cuts, merges, resets, asks, call-case}
 use Rattle.ledger.proofs.CallsWell.{setup-well, call-well, end-well}
 use Rattle.ledger.proofs.ReportRule.{report-free}
 
@@ -117,6 +117,19 @@ module _ (E : Engine) (laws : Laws E) where
       (omega (arith, told (numbered r), tally-le (ofRegion (numbered r)) (has r) (numbered-le r) (l .line), once-in-line (w .lined) r))
       (omega (arith, told (alike n r), sum-at b (ofRegion (alike n r)), alike-own n r))
 
+  refused-noted : (c : Call) (k : ℕ) (out : List Span) → note (event c (refused k)) out ≡ out
+  unfolding note
+  refused-noted (Take asked) k out = refl
+  refused-noted (HandBack span) k out = refl
+  refused-noted Reset k out = refl
+  refused-noted (Ask q) k out = refl
+
+  refused-told : (c : Call) (k : ℕ) (l : Ledger (E .Index)) (out : List Span) {x : Answer × Ledger (E .Index)} → x ≡ (refused k, l) → Told out l
+      → Told (note (event c (x .0)) out) (x .1)
+  refused-told c k l out e told =
+      subst (λ (x : Answer × Ledger (E .Index)). Told (note (event c (x .0)) out) (x .1)) (sym e)
+      (subst (λ (o : List Span). Told o l) (sym (refused-noted c k out)) told)
+
   module _ (size count : ℕ) where
     pub setup-told : Told [] (setup E size count)
     unfolding Told setup
@@ -125,32 +138,25 @@ module _ (E : Engine) (laws : Laws E) where
     pub call-told : (c : Call) (l : Ledger (E .Index)) (out : List Span) → WellFormed E size count l → Told out l
         → Told (note (event c (answer E size count c l .0)) out) (answer E size count c l .1)
     unfolding answer note Told
-    call-told (Take asked) l out w told = go (take-case E laws w s)
+    call-told c l out w told = go (call-case E laws size count w c)
       where
-        s : ℕ
-        s = asked .size
-
-        go : TakeCase E s l → Told (note (event (Take asked) (take E s l .0)) out) (take E s l .1)
-        go (few-spares h e) = rw e told
-        go (no-region h empty e) = rw e told
-        go (serves t) = rw (t .outcome)
-            (λ weight. omega (arith, told weight, cut-adds E (ofRegion weight) (λ m q. refl) s (t .n - s) l (t .place)))
-    call-told (HandBack span) l out w told = go (live-case E w r)
-      where
-        r : ℕ
-        r = span .number
-
-        go : LiveCase E r l → Told (note (event (HandBack span) (handBack E r l .0)) out) (handBack E r l .1)
-        go (not-live h e q) = rw e told
-        go (is-live n before after b e q) = rw e
+        go : {c : Call} → CallCase E size count l c → Told (note (event c (answer E size count c l .0)) out) (answer E size count c l .1)
+        go (refuses {c = c} k h e) = refused-told c k l out e told
+        go (cuts {asked = asked} t e) = rw e
+            (λ weight. omega (
+              arith,
+              told weight,
+              cut-adds E (ofRegion weight) (λ m q. refl) (asked .size) (t .n - asked .size) l (t .place),
+            ))
+        go (merges {span = span} n before after b e) = rw e
             (λ weight. omega (
               arith,
               told weight,
               merge-takes E (ofRegion weight) (λ m q. refl) l b,
-              return-told size count n r before after l out w told b weight,
+              return-told size count n (span .number) before after l out w told b weight,
             ))
-    call-told Reset l out w told = setup-told
-    call-told (Ask q) l out w told = told
+        go resets = setup-told
+        go asks = told
 
   -- ---- the sum
   lengths : (line : List Region) → tally (ofRegion (λ n r. n)) line + tally freeLen line ≡ tally len line

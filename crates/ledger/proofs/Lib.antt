@@ -10,6 +10,8 @@ pub mod KeptStacks
 pub mod KeptIndex
 pub mod LiveSums
 pub mod Cases
+pub mod Outcomes
+pub mod Questions
 pub mod CallsWell
 pub mod RunsMean
 pub mod Stays

@@ -1,5 +1,5 @@
 -- With count n no more than n - 2 spans are ever live. Assumes nothing.
-use Rattle.ledger.specs.Ledger.{Engine, Ledger, cut, setup, take, handBack, Region, live, free}
+use Rattle.ledger.specs.Ledger.{Engine, Ledger, cut, setup, Region, live, free}
 use Rattle.ledger.specs.Laws.{Laws}
 use mathlib.Core.Path.{refl}
 use Prim.Native.Nat.{ℕ, zero, suc, _+_, _-_, _≤_}
@@ -8,13 +8,13 @@ use mathlib.Core.List.{List, [], _∷_}
 use lib.ListN.{length, getD, length-reverseAux}
 use Rattle.basics.specs.Sum.{tally}
 use Rattle.basics.proofs.Sums.{tally-reverseAux, tally-le, tally-length}
-use Rattle.ledger.specs.Calls.{answer, end, Call, Take, HandBack, Reset, Ask}
+use Rattle.ledger.specs.Calls.{answer, end, Call}
 use Rattle.ledger.specs.WellFormed.{WellFormed}
 use Rattle.ledger.specs.History.{liveOne}
 use Rattle.ledger.specs.Claims.{Reached}
 use Rattle.ledger.proofs.Records.{all-records}
 use Rattle.ledger.proofs.LiveSums.{merge-takes}
-use Rattle.ledger.proofs.Cases.{TakeCase, few-spares, no-region, serves, take-case, LiveCase, is-live, not-live, live-case}
+use Rattle.ledger.proofs.Outcomes.{CallCase, refuses, cuts, merges, resets, asks, call-case}
 use Rattle.ledger.proofs.CallsWell.{take-well, setup-well, call-well}
 
 module _ (E : Engine) (laws : Laws E) where
@@ -47,28 +47,18 @@ module _ (E : Engine) (laws : Laws E) where
     call-at-most : (c : Call) (l : Ledger (E .Index)) → WellFormed E size count l → tally liveOne (l .line) + 2 ≤ count
         → tally liveOne (answer E size count c l .1 .line) + 2 ≤ count
     unfolding answer setup
-    call-at-most (Take asked) l w h = go (take-case E laws w s)
+    call-at-most c l w h = go (call-case E laws size count w c)
       where
-        s : ℕ
-        s = asked .size
-
-        go : TakeCase E s l → tally liveOne (take E s l .1 .line) + 2 ≤ count
-        go (few-spares k e) = rw e h
-        go (no-region k empty e) = rw e h
-        go (serves t) =
+        go : {c : Call} → CallCase E size count l c → tally liveOne (answer E size count c l .1 .line) + 2 ≤ count
+        go (refuses k r e) = rw e h
+        go (cuts {asked = asked} t e) =
+            let s = asked .size in
             rw (t .outcome)
             (cut-at-most size count s (t .n - s) (t .n) (t .r) (t .before) (t .after) l (t .two-spare)
             (rw (t .outcome) at (take-well E laws size count s l w)))
-    call-at-most (HandBack span) l w h = go (live-case E w r)
-      where
-        r : ℕ
-        r = span .number
-
-        go : LiveCase E r l → tally liveOne (handBack E r l .1 .line) + 2 ≤ count
-        go (not-live k e q) = rw e h
-        go (is-live n before after b e q) = rw e (omega (arith, merge-takes E liveOne (λ m p. refl) l b))
-    call-at-most Reset l w h = omega arith
-    call-at-most (Ask q) l w h = h
+        go (merges n before after b e) = rw e (omega (arith, merge-takes E liveOne (λ m p. refl) l b))
+        go resets = omega arith
+        go asks = h
 
     calls-at-most : (cs : List Call) (l : Ledger (E .Index)) → WellFormed E size count l → tally liveOne (l .line) + 2 ≤ count
         → tally liveOne (end (answer E size count) cs l .line) + 2 ≤ count

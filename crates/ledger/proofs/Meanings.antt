@@ -12,7 +12,7 @@ use Rattle.basics.proofs.Clash.{clash}
 use Rattle.small_float.specs.Class.{down}
 use Rattle.basics.proofs.Decided.{Same, same, differ, same?, Below, below, beyond, below?}
 use Rattle.ledger.specs.Ledger.{Region, live, free, len, Stacks, onTop, Answer, granted, done, refused}
-use Rattle.ledger.specs.Calls.{Request, Token, Question, SizeOf, Report, FullReport, Call, Take, HandBack, Reset, Ask, takes, hands-back, event}
+use Rattle.ledger.specs.Calls.{Request, Token, Question, SizeOf, Call, Take, HandBack, Reset, Ask, takes, hands-back, event}
 use Rattle.ledger.specs.Spans.{At, first, later, FreeIn, Among, Disjoint, Leaves, AllLeave}
 use Rattle.ledger.specs.History.{Span, strike, note, liveOne}
 use Rattle.ledger.specs.Stretch.{Stretch, ended, grants, returns, refuses, asks}
@@ -164,8 +164,8 @@ of-size unknown = refl
 take-refusals : (asked : Request) (k : ℕ) → CanRefuse (Take asked) k ↔ ((k ≡ 3) ⊎ (k ≡ 4))
 take-refusals asked k = (of-take, elim [ inl e ↦ rw e too-few-spares | inr e ↦ rw e none-reaches ])
 
-no-refusals : (k : ℕ) → (¬ CanRefuse (Ask Report) k) × (¬ CanRefuse (Ask FullReport) k) × (¬ CanRefuse Reset k)
-no-refusals k = (elim [ ], elim [ ], elim [ ])
+no-refusals : {q : Question} {k : ℕ} → CanRefuse (Ask q) k → (span : Token) × (q ≡ SizeOf span)
+no-refusals (unknown {span = span}) = (span, refl)
 
 -- ---- the history
 refusal-notes-nothing : (c : Call) (k : ℕ) (out : List Span) → note (event c (refused k)) out ≡ out
@@ -254,7 +254,8 @@ meanings = record {
   take-refusals = take-refusals;
   hand-back-refusals = λ span k. (of-hand-back, λ e. rw e not-live);
   size-refusals = λ span k. (of-size, λ e. rw e unknown);
-  no-refusals = no-refusals;
+  no-refusals = λ q k. no-refusals;
+  reset-refusals = λ k. elim [ ];
   numbers-many = λ r n. length-numbersFrom n r;
   numbers-each = numbers-each;
   refusal-notes-nothing = refusal-notes-nothing;

@@ -11,13 +11,15 @@ use lib.ListN.{length}
 use Rattle.basics.specs.Sum.{tally}
 use Rattle.basics.proofs.Clash.{clash}
 use Rattle.basics.proofs.Decided.{Below, below, beyond, below?}
-use Rattle.ledger.specs.Calls.{answer, Call, Take, HandBack, SizeOf, Report, FullReport, Reset, Ask}
+use Rattle.ledger.specs.Calls.{answer, Call}
 use Rattle.ledger.specs.WellFormed.{WellFormed}
 use Rattle.ledger.specs.Spans.{At}
-use Rattle.ledger.specs.Claims.{Granted, Refused, NoneReaches, Live, CanRefuse, too-few-spares, none-reaches, unknown}
+use Rattle.ledger.specs.Claims.{Granted, Refused, NoneReaches, Live, CanRefuse}
 use Rattle.ledger.proofs.Places.{between-at, at-front, split, same-region}
 use Rattle.ledger.proofs.Records.{once-in-line, record-below}
 use Rattle.ledger.proofs.Cases.{TakeCase, few-spares, no-region, serves, take-case, LiveCase, is-live, not-live, live-case}
+use Rattle.ledger.proofs.Outcomes.{CallCase, refuses, cuts, merges, resets, asks, call-case}
+use Rattle.ledger.proofs.Questions.{told-refused}
 
 module _ (E : Engine) (laws : Laws E) where
   -- ---- take
@@ -115,39 +117,23 @@ module _ (E : Engine) (laws : Laws E) where
     -- ---- all calls
     pub no-other : (c : Call) (k : ℕ) (l : Ledger (E .Index)) → WellFormed E size count l → answer E size count c l .0 ≡ refused k → CanRefuse c k
     unfolding answer
-    no-other (Take asked) k l w x = go (take-case E laws w (asked .size))
+    no-other c k l w x = go x (call-case E laws size count w c)
       where
-        go : TakeCase E (asked .size) l → CanRefuse (Take asked) k
-        go (few-spares h e) = let number : 3 ≡ k = cc in subst (CanRefuse (Take asked)) number too-few-spares
-        go (no-region h empty e) = let number : 4 ≡ k = cc in subst (CanRefuse (Take asked)) number none-reaches
-        go (serves t) = clash (cc (t .outcome))
-    no-other (HandBack span) k l w x = go (live-case E w (span .number))
-      where
-        go : LiveCase E (span .number) l → CanRefuse (HandBack span) k
-        go (not-live h e q) = let number : 5 ≡ k = cc in subst (CanRefuse (HandBack span)) number CanRefuse.not-live
-        go (is-live n before after b e q) = clash (cc)
-    no-other Reset k l w x = clash (cc)
-    no-other (Ask (SizeOf span)) k l w x = go (live-case E w (span .number))
-      where
-        go : LiveCase E (span .number) l → CanRefuse (Ask (SizeOf span)) k
-        go (not-live h e q) = let number : 5 ≡ k = cc in subst (CanRefuse (Ask (SizeOf span))) number unknown
-        go (is-live n before after b e q) = clash (cc)
-    no-other (Ask Report) k l w x = clash (cc)
-    no-other (Ask FullReport) k l w x = clash (cc)
+        go : {c : Call} → answer E size count c l .0 ≡ refused k → CallCase E size count l c → CanRefuse c k
+        go {c} x (refuses j h e) = let number : j ≡ k = cc in subst (CanRefuse c) number h
+        go x (cuts t e) = clash (cc)
+        go x (merges n before after b e) = clash (cc)
+        go x resets = clash (cc)
+        go x (asks {q = q}) = told-refused E size count q k l w x
 
     pub refused-same : (c : Call) (k : ℕ) (l : Ledger (E .Index)) → WellFormed E size count l
         → answer E size count c l .0 ≡ refused k → answer E size count c l .1 ≡ l
     unfolding answer
-    refused-same (Take asked) k l w x = go (take-case E laws w (asked .size))
+    refused-same c k l w x = go x (call-case E laws size count w c)
       where
-        go : TakeCase E (asked .size) l → take E (asked .size) l .1 ≡ l
-        go (few-spares h e) = ap (λ a. a .1) e
-        go (no-region h empty e) = ap (λ a. a .1) e
-        go (serves t) = clash (cc (t .outcome))
-    refused-same (HandBack span) k l w x = go (live-case E w (span .number))
-      where
-        go : LiveCase E (span .number) l → handBack E (span .number) l .1 ≡ l
-        go (not-live h e q) = ap (λ a. a .1) e
-        go (is-live n before after b e q) = clash (cc)
-    refused-same Reset k l w x = clash (cc)
-    refused-same (Ask q) k l w x = refl
+        go : {c : Call} → answer E size count c l .0 ≡ refused k → CallCase E size count l c → answer E size count c l .1 ≡ l
+        go x (refuses j h e) = ap (λ a. a .1) e
+        go x (cuts t e) = clash (cc)
+        go x (merges n before after b e) = clash (cc)
+        go x resets = clash (cc)
+        go x asks = refl

@@ -1,9 +1,44 @@
--- A run told from its last call, and its log. Assumes nothing.
+-- What a call holds; a run told from its last call, and its log. Assumes nothing.
 use mathlib.Core.Path.{_≡_, refl, ap}
+use mathlib.Core.Logic.{_⊎_, inl, inr}
 use mathlib.Core.List.{List, [], _∷_, _++_, map}
+use Prim.Native.Nat.{ℕ}
+use Rattle.basics.proofs.Clash.{clash}
 use Rattle.ledger.specs.Ledger.{Answer}
-use Rattle.ledger.specs.Calls.{Call, callOf, answerOf, end, answers, log, RunsMean}
+use Rattle.ledger.specs.Calls.{SizeOf, Report, FullReport, Call, Take, HandBack, Reset, Ask, takes, hands-back, asks-size, CallsMean}
+use Rattle.ledger.specs.Calls.{callOf, answerOf, end, answers, log, RunsMean}
 
+-- ---- calls
+-- the number that a call asks for, 0 where it asks for none
+numberIn : Call → ℕ
+numberIn (Take asked) = asked .size
+numberIn (HandBack span) = span .number
+numberIn Reset = 0
+numberIn (Ask (SizeOf span)) = span .number
+numberIn (Ask Report) = 0
+numberIn (Ask FullReport) = 1
+
+every-call : (c : Call)
+    → ((s : ℕ) × (c ≡ takes s))
+    ⊎ (((r : ℕ) × (c ≡ hands-back r)) ⊎ ((c ≡ Reset) ⊎ (((r : ℕ) × (c ≡ asks-size r)) ⊎ ((c ≡ Ask Report) ⊎ (c ≡ Ask FullReport)))))
+every-call (Take asked) = inl (asked .size, refl)
+every-call (HandBack span) = inr (inl (span .number, refl))
+every-call Reset = inr (inr (inl refl))
+every-call (Ask (SizeOf span)) = inr (inr (inr (inl (span .number, refl))))
+every-call (Ask Report) = inr (inr (inr (inr (inl refl))))
+every-call (Ask FullReport) = inr (inr (inr (inr (inr refl))))
+
+pub calls-mean : CallsMean
+unfolding numberIn
+calls-mean = record {
+  every-call = every-call;
+  one-size = λ s t e. ap numberIn e;
+  one-record = λ r q e. ap numberIn e;
+  one-record-asked = λ r q e. ap numberIn e;
+  reports-differ = λ e. clash (ap (λ q. numberIn (Ask q)) e);
+}
+
+-- ---- runs
 module _ {State : Type 0} (one-call : Call → State → Answer × State) where
   end-none : (s : State) → end one-call [] s ≡ s
   unfolding end

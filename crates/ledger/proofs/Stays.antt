@@ -1,5 +1,5 @@
 -- A live region stays where it is, at its length, until its record is handed back or the store is reset. Assumes nothing.
-use Rattle.ledger.specs.Ledger.{Engine, Ledger, Side, cut, beside, merge, take, handBack, Region, live, free, len}
+use Rattle.ledger.specs.Ledger.{Engine, Ledger, Side, cut, beside, merge, Region, live, free, len}
 use Rattle.ledger.specs.Laws.{Laws}
 use mathlib.Core.Path.{_≡_}
 use Prim.Native.Nat.{ℕ, zero, suc, _+_, _-_, _≤_}
@@ -9,12 +9,12 @@ use mathlib.Core.List.{List, [], _∷_, reverseAux}
 use lib.ListN.{getD}
 use Rattle.basics.specs.Sum.{tally}
 use Rattle.basics.proofs.Clash.{clash}
-use Rattle.ledger.specs.Calls.{answer, end, Call, Take, HandBack, Reset, Ask}
+use Rattle.ledger.specs.Calls.{answer, end, Call}
 use Rattle.ledger.specs.WellFormed.{WellFormed}
 use Rattle.ledger.specs.Spans.{At, first, later, Leaves, AllLeave}
 use Rattle.ledger.proofs.Places.{Between, Where, here, further, where?, at-none, at-behind}
 use Rattle.ledger.proofs.KeptLine.{side-len}
-use Rattle.ledger.proofs.Cases.{TakeCase, few-spares, no-region, serves, take-case, LiveCase, is-live, not-live, live-case}
+use Rattle.ledger.proofs.Outcomes.{CallCase, refuses, cuts, merges, resets, asks, call-case}
 use Rattle.ledger.proofs.CallsWell.{call-well}
 
 module _ (E : Engine) (laws : Laws E) where
@@ -114,25 +114,14 @@ module _ (E : Engine) (laws : Laws E) where
     pub call-leaves : (c : Call) (n r o : ℕ) (l : Ledger (E .Index)) → WellFormed E size count l → Leaves r c
         → At (live n r) o (l .line) → At (live n r) o (answer E size count c l .1 .line)
     unfolding answer
-    call-leaves (Take asked) n r o l w h a = go (take-case E laws w s)
+    call-leaves c n r o l w h a = go h (call-case E laws size count w c)
       where
-        s : ℕ
-        s = asked .size
-
-        go : TakeCase E s l → At (live n r) o (take E s l .1 .line)
-        go (few-spares k e) = rw e a
-        go (no-region k empty e) = rw e a
-        go (serves t) = rw (t .outcome) (cut-leaves s (t .n - s) l (t .place) (omega (arith, t .long-enough)) a)
-    call-leaves (HandBack span) n r o l w h a = go (live-case E w q)
-      where
-        q : ℕ
-        q = span .number
-
-        go : LiveCase E q l → At (live n r) o (handBack E q l .1 .line)
-        go (not-live k e z) = rw e a
-        go (is-live m before after b e z) = rw e (merge-leaves l b h a)
-    call-leaves Reset n r o l w h a = absurd h
-    call-leaves (Ask q) n r o l w h a = a
+        go : {c : Call} → Leaves r c → CallCase E size count l c → At (live n r) o (answer E size count c l .1 .line)
+        go h (refuses k m e) = rw e a
+        go h (cuts {asked = asked} t e) = rw e (cut-leaves (asked .size) (t .n - asked .size) l (t .place) (omega (arith, t .long-enough)) a)
+        go h (merges m before after b e) = rw e (merge-leaves l b h a)
+        go h resets = absurd h
+        go h asks = a
 
     pub calls-leave : (cs : List Call) (n r o : ℕ) (l : Ledger (E .Index)) → WellFormed E size count l → AllLeave r cs
         → At (live n r) o (l .line) → At (live n r) o (end (answer E size count) cs l .line)

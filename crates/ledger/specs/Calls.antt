@@ -1,6 +1,7 @@
 -- One type of calls, and runs of them with their answers. Assumes nothing.
 use mathlib.Core.Path.{_≡_}
 use Prim.Native.Nat.{ℕ}
+use mathlib.Core.Logic.{_⊎_, _≢_}
 use mathlib.Core.List.{List, [], _∷_, _++_, map}
 use Rattle.ledger.specs.Ledger.{Engine, Ledger, Answer, done, reported, classes, setup, take, handBack, sizeOf, report, fullReport}
 
@@ -18,6 +19,12 @@ pub data Question : Type 0 where
   Report : Question
   FullReport : Question
 
+-- how many figures a question returns: a length, the report's two, a value and a number for each class from 0 to 255
+abbrev pub figuresTold : Question → ℕ
+figuresTold (SizeOf span) = 1
+figuresTold Report = 2
+figuresTold FullReport = 512
+
 pub data Call : Type 0 where
   Take : Request → Call
   HandBack : Token → Call
@@ -33,6 +40,17 @@ hands-back r = HandBack record { number = r }
 
 abbrev pub asks-size : (r : ℕ) → Call
 asks-size r = Ask (SizeOf record { number = r })
+
+-- what a call holds, told from the other side: each is one of these, and no size and no record that is asked for is lost.
+-- proofs/RunsMean.antt makes it
+pub record CallsMean : Type 0 where
+  pub every-call : (c : Call)
+      → ((s : ℕ) × (c ≡ takes s))
+      ⊎ (((r : ℕ) × (c ≡ hands-back r)) ⊎ ((c ≡ Reset) ⊎ (((r : ℕ) × (c ≡ asks-size r)) ⊎ ((c ≡ Ask Report) ⊎ (c ≡ Ask FullReport)))))
+  pub one-size : (s t : ℕ) → takes s ≡ takes t → s ≡ t
+  pub one-record : (r q : ℕ) → hands-back r ≡ hands-back q → r ≡ q
+  pub one-record-asked : (r q : ℕ) → asks-size r ≡ asks-size q → r ≡ q
+  pub reports-differ : Report ≢ FullReport
 
 -- a call with its answer
 pub data Event : Type 0 where

@@ -3,7 +3,7 @@ use Prim.Native.Nat.{ℕ}
 use mathlib.Core.List.{List, [], _∷_}
 use lib.ListN.{replicate}
 use Rattle.ledger.specs.Ledger.{Answer, granted, done, length-is, reported, classes, refused}
-use Rattle.ledger.specs.Calls.{Question, SizeOf, Report, FullReport, Call, Take, HandBack, Reset, Ask}
+use Rattle.ledger.specs.Calls.{figuresTold, Call, Take, HandBack, Reset, Ask}
 
 -- the refusal's number, 0 for an answer
 abbrev pub refusalOf : Answer → ℕ
@@ -13,12 +13,6 @@ refusalOf (length-is n) = 0
 refusalOf (reported n m) = 0
 refusalOf (classes rows) = 0
 refusalOf (refused k) = k
-
--- how many figures a question returns: a length, the report's two, a value and a number for each class from 0 to 255
-abbrev pub figuresTold : Question → ℕ
-figuresTold (SizeOf span) = 1
-figuresTold Report = 2
-figuresTold FullReport = 512
 
 -- how many figures a call returns: a take its offset and record
 abbrev pub figureCount : Call → ℕ

@@ -8,7 +8,7 @@ use lib.ListN.{length, getD}
 use Rattle.basics.specs.Sum.{tally}
 use Rattle.small_float.specs.Class.{down}
 use Rattle.ledger.specs.Ledger.{Region, live, free, len, Stacks, onTop, numbersFrom, Answer, granted, done, refused}
-use Rattle.ledger.specs.Calls.{Request, Token, Question, SizeOf, Report, FullReport, Call, Take, HandBack, Reset, Ask, takes, hands-back, Event, event}
+use Rattle.ledger.specs.Calls.{Request, Token, Question, SizeOf, Call, Take, HandBack, Reset, Ask, takes, hands-back, Event, event}
 use Rattle.ledger.specs.Spans.{At, FreeIn, Among, Disjoint, Leaves, AllLeave}
 use Rattle.ledger.specs.History.{Span, note, liveOne}
 use Rattle.ledger.specs.Stretch.{Stretch}
@@ -64,7 +64,9 @@ pub record Meanings : Type 0 where
   pub take-refusals : (asked : Request) (k : ℕ) → CanRefuse (Take asked) k ↔ ((k ≡ 3) ⊎ (k ≡ 4))
   pub hand-back-refusals : (span : Token) (k : ℕ) → CanRefuse (HandBack span) k ↔ (k ≡ 5)
   pub size-refusals : (span : Token) (k : ℕ) → CanRefuse (Ask (SizeOf span)) k ↔ (k ≡ 5)
-  pub no-refusals : (k : ℕ) → (¬ CanRefuse (Ask Report) k) × (¬ CanRefuse (Ask FullReport) k) × (¬ CanRefuse Reset k)
+  -- of the questions the size query alone; a reset never
+  pub no-refusals : (q : Question) (k : ℕ) → CanRefuse (Ask q) k → (span : Token) × (q ≡ SizeOf span)
+  pub reset-refusals : (k : ℕ) → ¬ CanRefuse Reset k
   -- ---- the n numbers from r on: n of them, the i-th of which is r + i
   pub numbers-many : (r n : ℕ) → length (numbersFrom r n) ≡ n
   pub numbers-each : (r n i : ℕ) → i < n → getD (numbersFrom r n) i 0 ≡ r + i

@@ -10,19 +10,13 @@ use Rattle.tables.specs.Promise.{Promise}
 use Rattle.tables.proofs.Promise.{one-outcome, one-setup}
 use Rattle.answers.proofs.OneValue.{one-value}
 use Rattle.bins.specs.declared.totals.Totals.{Totals}
-use Rattle.bins.specs.InWords.{wordsOf}
+use Rattle.bins.specs.InWords.{wordsOf, totalsIn}
 use Rattle.offset_allocator.specs.OneResult.{InPlace, ByValue, Form, in-place, by-value, OneResult}
 
 -- ---- words fix what they are made of
 module _ (t u : Totals) (hs ls ns ps gs ks ms qs : List ℕ) (e : wordsOf t hs ls ns ps ≡ wordsOf u gs ks ms qs) where
   same-totals : t ≡ u
-  same-totals = λ i. record {
-    size = e i .size;
-    «max_allocs» = e i .count;
-    «free_storage» = e i .freeStorage;
-    «free_offset» = e i .freeOffset;
-    «used_bins_top» = e i .usedBinsTop;
-  }
+  same-totals = ap totalsIn e
 
 placed : (v u : InPlace) → in-place .words v ≡ in-place .words u → v ≡ u
 placed v u e = λ i. record {

@@ -8,7 +8,7 @@ use Rattle.tables.specs.Words.{Words}
 use Rattle.tables.specs.Setup.{Lent}
 use Rattle.tables.specs.Calls.{edition32}
 use Rattle.tables.specs.Promise.{Promise, SetupPromise}
-use Rattle.auditing.specs.Promise.{AuditPromise}
+use Rattle.audit_words.specs.Promise.{AuditPromise}
 use Rattle.answers.specs.declared.StartAnswer.{StartAnswer}
 use Rattle.answers.specs.declared.TakeAnswer.{TakeAnswer}
 use Rattle.answers.specs.declared.BackAnswer.{BackAnswer}

@@ -7,7 +7,7 @@ use Rattle.tables.specs.Words.{Words, Edition}
 use Rattle.tables.specs.Room.{Room}
 use Rattle.starting.specs.declared.lengths.Lengths.{Lengths}
 use Rattle.starting.specs.Lengths.{Needed}
-use Rattle.auditing.specs.Claims.{AuditRoom}
+use Rattle.audit_words.specs.Claims.{AuditRoom}
 
 -- what starting's Needed says of the scratch, which starting does not know; proofs/Scratch.antt makes it
 pub record ScratchFacts (E : Edition) : Type 0 where

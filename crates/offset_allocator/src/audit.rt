@@ -1,6 +1,6 @@
 // The audit, with the head by value. It changes nothing but the scratch, so the head does not come back.
 ghost use Rattle.tables.specs.Calls.{edition32};
-ghost use Rattle.auditing.specs.Promise.{AuditPromise};
+ghost use Rattle.audit_words.specs.Promise.{AuditPromise};
 ghost use Rattle.answers.specs.Answers.{auditSays};
 ghost use Rattle.offset_allocator.specs.HeadWords.{headWords};
 use crate::head::Head;

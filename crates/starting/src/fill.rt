@@ -5,6 +5,7 @@ ghost use Prim.Native.Nat.{_≤_};
 ghost use lib.ListN.{length, replicate};
 ghost use Rattle.tables.specs.Setup.{wiped, piled};
 ghost use Rattle.bins.specs.InWords.{HasRoom};
+use answers::Handle;
 use bins::nodes;
 
 // Every class has this top.
@@ -28,7 +29,7 @@ pub fn mark_not_live(nodes: &mut [u32], max_allocs: u32)
 {
     let mut r: u32 = 0;
     while r < max_allocs {
-        nodes::put(nodes, r, nodes::USED, 0);
+        nodes::put(nodes, Handle(r), nodes::USED, 0);
         r += 1;
     }
 }

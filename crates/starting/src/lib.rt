@@ -13,6 +13,7 @@ ghost use Rattle.answers.specs.Refusals.{numberOf};
 ghost use Rattle.bins.specs.InWords.{wordsOf, bound, HasRoom};
 ghost use Rattle.answers.specs.Answers.{startSays};
 ghost use Rattle.starting.specs.Answers.{outcomeOf};
+use answers::Handle;
 use answers::Refusal;
 use answers::StartAnswer;
 use bins::gate::Gate;
@@ -37,16 +38,19 @@ fn one_region(
     used_bins: &mut [u8; 32],
     nodes: &mut [u32],
     t: Totals,
-    size: u32,
+    size: Size,
 ) -> Totals
     requires { ⌜ 1 ≤ t .«max_allocs» ⌝ }
     requires { ⌜ HasRoom (t .«max_allocs») (now nodes) ⌝ }
     ensures { λ u. ⌜ ((pile : List ℕ) →
         wordsOf u (now («bin_indices» .exit)) (now («used_bins» .exit)) (now (nodes .exit)) pile
         ≡ insert (bound (t .«max_allocs»))
-        (wordsOf t (now («bin_indices» .entry)) (now («used_bins» .entry)) (now (nodes .entry)) pile) size 0 0 (edition32 .none) (edition32 .none)) ⌝ }
+        (wordsOf t (now («bin_indices» .entry)) (now («used_bins» .entry)) (now (nodes .entry)) pile)
+        (size .0) 0 0 (edition32 .none) (edition32 .none)) ⌝ }
 {
-    bins::insert::insert_node_into_bin(bin_indices, used_bins, nodes, t, size, 0, 0, NONE, NONE)
+    let first = Handle(0);
+    let none = Handle(NONE);
+    bins::insert::insert_node_into_bin(bin_indices, used_bins, nodes, t, size, 0, first, none, none)
 }
 
 // Behind the gate: every record spare but record 0, which is one free region of the whole size.
@@ -76,7 +80,7 @@ fn start_afresh(
         used_bins_top: 0,
     };
     let t = bins::pile::pop(blank);
-    one_region(bin_indices, used_bins, nodes, t, size)
+    one_region(bin_indices, used_bins, nodes, t, Size(size))
 }
 
 // A refused setup gives totals of zeros, whose count of 0 makes every later call on them a refusal. It changes nothing that it was lent: the two arrays

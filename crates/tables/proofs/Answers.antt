@@ -5,8 +5,10 @@ use lib.Count.{leadingZeros, trailingZeros}
 use Rattle.small_float.specs.Class.{up, value}
 use Rattle.tables.specs.Layout.{word, put, putLink}
 use Rattle.tables.specs.Steps.{insertNodes, joinNodes, insertAt, insert, unlinkAt, unlink, pushPile, popPile}
+use Rattle.tables.specs.Gate.{gate, setupGate}
 use Rattle.tables.specs.Calls.{answerWords}
-use Rattle.tables.specs.Examples.{desk, reporting, withReports, RunOnWords, TwoTakes, NearlyRight, spoiled, Spoiled}
+use Rattle.tables.specs.Examples.{desk, reporting, withReports, RunOnWords, TwoTakes, NearlyRight}
+use Rattle.tables.specs.Examples.{spoiled, Spoiled, spoiledBits, SpoiledBits, GateRows}
 
 pub nearly-right : NearlyRight
 unfolding answerWords answers desk up value word put putLink insert insertAt insertNodes joinNodes unlink unlinkAt pushPile popPile
@@ -40,12 +42,23 @@ two-takes = record {
 }
 
 pub spoiled-refused : Spoiled
-unfolding answerWords spoiled up word insert insertAt insertNodes joinNodes putLink popPile trailingZeros
+unfolding answerWords end spoiled desk up value word put insert insertAt insertNodes joinNodes putLink unlink unlinkAt pushPile popPile
+    leadingZeros trailingZeros
 spoiled-refused = record {
   too-short = refl;
   outside = refl;
   around = refl;
+  total-past = refl;
+  total-just = refl;
   right-size = refl;
   right-offset = refl;
   right-link = refl;
 }
+
+pub spoiled-bits : SpoiledBits
+unfolding answerWords spoiledBits up value word put insert insertAt insertNodes joinNodes putLink popPile leadingZeros trailingZeros
+spoiled-bits = record { bare-top-bit = refl; bare-top-report = refl; no-top-bit = refl; class-239 = refl; class-240 = refl }
+
+pub gate-rows : GateRows
+unfolding gate setupGate
+gate-rows = record { counts = refl; nodes = refl; piles = refl; sizes = refl; order = refl }

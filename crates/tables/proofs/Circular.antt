@@ -12,8 +12,8 @@ use Rattle.ledger.specs.Ledger.{Answer, refused}
 use Rattle.ledger.specs.Calls.{FullReport, Ask}
 use Rattle.tables.specs.Layout.{binNext, word}
 use Rattle.tables.specs.Words.{Words, Edition}
-use Rattle.tables.specs.Questions.{Walked, steps, lost, listLength, Counts, counts, circular, noted, countFrom, fullAnswer, fullReportOf}
-use Rattle.tables.specs.Calls.{toldBy, behind, answerWords}
+use Rattle.tables.specs.Questions.{Walked, steps, lost, listLength, Counts, counts, circular, noted, countFrom, fullAnswer, fullReportOf, toldBy}
+use Rattle.tables.specs.Calls.{behind, answerWords}
 use Rattle.tables.specs.Room.{Room}
 use Rattle.tables.specs.Claims.{along, Circular}
 use Rattle.tables.proofs.Gate.{call-open}

@@ -3,33 +3,41 @@
 use mathlib.Core.Path.{_≡_, refl, sym, ap, _∙_}
 use mathlib.Core.Logic.{_⊎_, inl, inr}
 use mathlib.Core.List.{List, [], _∷_}
+use mathlib.Core.Bool.{Bool, true}
 use Prim.Native.Nat.{ℕ, _+_, _*_, _/_, _%_, _≤_, _<_, _^_}
+use native.Mathlib.Nat.{div-self}
 use native.Mathlib.Omega.{arith}
+use lib.Dec.{ltb}
+use lib.Count.{leadingZeros, trailingZeros}
 use lib.ListN.{length, getD, replicate, length-replicate, getD-replicate, List·getD-eq-default}
 use lib.Pow.{pow-pos}
+use borrow.Author.Tests.{lt-ltb}
 use Rattle.basics.proofs.Decided.{below, beyond, below?}
 use Rattle.small_float.specs.Class.{up}
 use Rattle.ledger.specs.Ledger.{Answer, done, refused, setup, by-class}
-use Rattle.ledger.specs.Calls.{Request, Question, SizeOf, Report, FullReport, Call, Take, HandBack, Reset, Ask, answer, end}
+use Rattle.ledger.specs.Calls.{Request, Token, Question, SizeOf, Report, FullReport, Call, Take, HandBack, Reset, Ask, answer, end}
 use Rattle.ledger.proofs.SmallStores.{small-stores}
-use Rattle.tables.specs.Layout.{used, word, nodesNeeded, pileNeeded}
+use Rattle.tables.specs.Layout.{neighborPrev, neighborNext, used, word, nodesNeeded, pileNeeded}
 use Rattle.tables.specs.Words.{Words}
-use Rattle.tables.specs.Search.{lowInBin, leafOrAbove, findClass}
+use Rattle.tables.specs.Search.{lowFrom, lowInBin, leafOrAbove, findClass}
 use Rattle.tables.specs.Search as found
-use Rattle.tables.specs.Take.{planClass, planTake, doTake}
+use Rattle.tables.specs.Take.{TakePlan, planRegion, planRecord, planClass, planTake, doTake}
+use Rattle.tables.specs.HandBack.{BackPlan, Merged, isLive, isFree, mergedOf, planMerged, planSides, planNeighbours, planBack, doBack}
 use Rattle.tables.specs.Setup.{Lent, tablesAlone, setupWords}
+use Rattle.tables.specs.Questions.{mayTell}
 use Rattle.tables.specs.Calls.{edition32, behind, answerWords}
 use Rattle.tables.specs.Room.{Room}
-use Rattle.tables.specs.Claims.{OneOf, mayTell, mayGiveBehind, mayGive, NotLive}
-use Rattle.tables.specs.Examples.{LongEnough, CountRows, AllGiven, EveryEdition}
+use Rattle.tables.specs.Claims.{OneOf, mayGiveBehind, mayGive, NotLive}
+use Rattle.tables.specs.Examples.{LongEnough, CountRows, GivenBehind, AllGiven, EveryEdition}
 use Rattle.tables.proofs.MaskEnds.{low-past}
+use Rattle.tables.proofs.PlanEnds.{either}
 use Rattle.tables.proofs.Gate.{call-open}
 use Rattle.tables.proofs.Refusals.{setup-1, setup-10, setup-2, setup-done, setup-refused, setup-numbers}
 use Rattle.tables.proofs.Refusals.{call-6, call-2, take-3, back-5, size-5}
 use Rattle.tables.proofs.Runs.{call-sound, demand-2}
 
 -- ---- counts
-accepted : (size count : ℕ) (lent : Lent) → size < 2 ^ 32 → 2 ≤ count → count ≤ 131072 → LongEnough count lent
+accepted : (size count : ℕ) (lent : Lent) → size < 2 ^ 32 → 2 ≤ count → count ≤ edition32 .limit → LongEnough count lent
     → setupWords edition32 size count lent .0 ≡ done
 accepted size count lent fits low high long =
     setup-done edition32 size count lent .1
@@ -63,8 +71,8 @@ count-rows = record {
       call-sound edition32 (end (answerWords edition32) cs (setupWords edition32 size 2 lent .1))
       (end (answer by-class size 2) cs (setup by-class size 2)) sound (Take asked) .0
       ∙ unfold answer in small-stores .count-2 size (asked .size) (end (answer by-class size 2) cs (setup by-class size 2)) (cs, refl);
-  count-131072 = λ size lent fits long. accepted size 131072 lent fits (omega arith) (omega arith) long;
-  count-131073 = λ size lent. setup-1 edition32 size 131073 lent .1 (inr (omega arith));
+  greatest-count = λ size lent fits long. accepted size _ lent fits (omega arith) (omega arith) long;
+  one-too-many = λ size lent. setup-1 edition32 size _ lent .1 (inr (omega arith));
   setup-32 = only-1-and-2;
   not-long-enough = λ size count lent fits low high short. setup-2 edition32 size count lent .1 (omega arith, ((low, high), which count lent short));
   one-of-zeros = λ size nodes pile.
@@ -109,31 +117,156 @@ gives-2 c = (bare 2 0 [] [], ap (λ (o : Answer × Words). o .0) (call-2 edition
 gives-6 : (c : Call) → (w : Words) × (answerWords edition32 c w .0 ≡ refused 6)
 gives-6 c = (bare 0 0 [] [], ap (λ (o : Answer × Words). o .0) (call-6 edition32 c (bare 0 0 [] []) (inl (omega arith))))
 
+-- ---- 6 behind an open gate
+-- with no heads every list begins with record 0, and there comes back to it
+around-6 : answerWords edition32 (Ask FullReport) (two 1) .0 ≡ refused 6
+unfolding answerWords word
+around-6 = refl
+
+-- a top bit over a leaf byte of 0
+abbrev top-alone : Words
+top-alone = record {
+  size = 0;
+  count = 2;
+  freeStorage = 0;
+  freeOffset = 1;
+  usedBinsTop = 1;
+  usedBins = [];
+  binIndices = [];
+  nodes = replicate 16 0;
+  pile = replicate 2 0;
+}
+
+report-6 : answerWords edition32 (Ask Report) top-alone .0 ≡ refused 6
+unfolding answerWords leadingZeros
+report-6 = refl
+
+-- class c has its bit, in a store of no units, and its list begins with a region of one
+abbrev no-units : (c : ℕ) → Words
+no-units c = record {
+  size = 0;
+  count = 2;
+  freeStorage = 0;
+  freeOffset = 1;
+  usedBinsTop = 0;
+  usedBins = replicate (c / 8 + 1) (2 ^ (c % 8));
+  binIndices = [];
+  nodes = replicate 16 1;
+  pile = replicate 2 0;
+}
+
+bit-found : (c : ℕ) → findClass (no-units c .usedBins) 0 c ≡ found.class-is (8 * (c / 8) + (c % 8 + 0))
+unfolding findClass leafOrAbove lowFrom trailingZeros
+bit-found c =
+    rw (getD-replicate {A = ℕ} (c / 8 + 1) (c / 8) (2 ^ (c % 8)) 0 (omega arith), div-self (pow-pos (c % 8)), lt-ltb (c % 8 + 0) 8 (omega arith)) refl
+
+region-outside : (c s d : ℕ) → planClass (no-units c) s (found.class-is d) ≡ TakePlan.stop 6
+unfolding planClass planRecord planRegion word
+region-outside c s d =
+    either (λ (p : TakePlan). p ≡ TakePlan.stop 6) (ltb d 256) (either (λ (p : TakePlan). p ≡ TakePlan.stop 6) (ltb 1 s) refl refl) refl
+
+take-6 : (asked : Request) → answerWords edition32 (Take asked) (no-units (up (asked .size))) .0 ≡ refused 6
+unfolding behind doTake
+take-6 asked =
+    let c = up (asked .size) in
+    let stops : planTake (no-units c) (asked .size) ≡ TakePlan.stop 6
+    = unfold planTake in rw (bit-found c) (region-outside c (asked .size) (8 * (c / 8) + (c % 8 + 0))) in
+    ap (λ (o : Answer × Words). o .0) (call-open edition32 (Take asked) (no-units c) (room 1))
+    ∙ ap (λ (p : TakePlan). doTake edition32 (no-units c) (asked .size) p .0) stops
+
+-- every record is live, and more is free than there is
+abbrev too-free : (count : ℕ) → Words
+too-free count = record {
+  size = 0;
+  count = count;
+  freeStorage = 1;
+  freeOffset = 1;
+  usedBinsTop = 0;
+  usedBins = [];
+  binIndices = [];
+  nodes = replicate (8 * count) 1;
+  pile = replicate count 0;
+}
+
+too-free-room : (count : ℕ) → 2 ≤ count → count ≤ 131072 → Room edition32 count (length (too-free count .nodes)) (length (too-free count .pile))
+too-free-room count low high = record {
+  count-low = low;
+  count-high = high;
+  nodes-room = omega (arith, length-replicate {A = ℕ} (8 * count) 1);
+  pile-room = omega (arith, length-replicate {A = ℕ} count 0);
+}
+
+total-outside : (count p x : ℕ) (p-free x-free : Bool) (m : Merged) → 1 ≤ m .total
+    → planMerged (too-free count) p x p-free x-free m ≡ BackPlan.stop 6
+unfolding planMerged
+total-outside count p x p-free x-free m h =
+    either (λ (q : BackPlan). q ≡ BackPlan.stop 6) (ltb 0 (m .length)) refl (rw (lt-ltb 0 (m .total) (omega (arith, h))) refl)
+
+sides-outside : (count r p x : ℕ) → planNeighbours (too-free count) r p x ≡ BackPlan.stop 6
+unfolding planNeighbours planSides mergedOf
+sides-outside count r p x =
+    let w = too-free count in
+    let p-free = isFree (w .nodes) count p in
+    let x-free = isFree (w .nodes) count x in
+    total-outside count p x p-free x-free (mergedOf w r p x p-free x-free) (omega arith)
+
+all-live : (count r : ℕ) → r < count → isLive (too-free count .nodes) count r ≡ true
+unfolding isLive word
+all-live count r h = rw (lt-ltb r count h, getD-replicate {A = ℕ} (8 * count) (8 * r + used) 1 0 (omega (arith, h))) refl
+
+back-6 : (count : ℕ) (span : Token) → 2 ≤ count → count ≤ 131072 → span .number < count
+    → answerWords edition32 (HandBack span) (too-free count) .0 ≡ refused 6
+unfolding behind doBack
+back-6 count span low high h =
+    let w = too-free count in
+    let stops : planBack w (span .number) ≡ BackPlan.stop 6
+    = unfold planBack in rw (all-live count (span .number) h)
+    (sides-outside count (span .number) (word (w .nodes) neighborPrev (span .number)) (word (w .nodes) neighborNext (span .number))) in
+    ap (λ (o : Answer × Words). o .0) (call-open edition32 (HandBack span) w (too-free-room count low high))
+    ∙ ap (λ (p : BackPlan). doBack edition32 w (span .number) p .0) stops
+
+-- ---- each number that is named
 -- the same number by another name
 renumber : (c : Call) {j k : ℕ} → k ≡ j → (w : Words) × (answerWords edition32 c w .0 ≡ refused j)
     → (w : Words) × (answerWords edition32 c w .0 ≡ refused k)
 renumber c e x = (x .0, x .1 ∙ ap refused (sym e))
 
-given-told : (q : Question) (k : ℕ) → OneOf (mayTell q) k → (w : Words) × (answerWords edition32 (Ask q) w .0 ≡ refused k)
-given-told (SizeOf span) k (inl e) =
-    renumber (Ask (SizeOf span)) e (two 0, size-5 edition32 (two 0) span (room 0) .1 (not-live 0 (span .number)))
-given-told (SizeOf span) k (inr e) = absurd e
-given-told Report k (inl e) = renumber (Ask Report) e (gives-6 (Ask Report))
-given-told Report k (inr e) = absurd e
-given-told FullReport k (inl e) = renumber (Ask FullReport) e (gives-6 (Ask FullReport))
-given-told FullReport k (inr e) = absurd e
+renumber-behind : (c : Call) {j k : ℕ} → k ≡ j → GivenBehind c j → GivenBehind c k
+renumber-behind c e x = (x .0, x .1, x .2 ∙ ap refused (sym e))
+
+told-behind : (q : Question) (k : ℕ) → OneOf (mayTell q) k → GivenBehind (Ask q) k
+told-behind (SizeOf span) k (inl e) =
+    renumber-behind (Ask (SizeOf span)) e (two 0, room 0, size-5 edition32 (two 0) span (room 0) .1 (not-live 0 (span .number)))
+told-behind (SizeOf span) k (inr e) = absurd e
+told-behind Report k (inl e) = renumber-behind (Ask Report) e (top-alone, room 1, report-6)
+told-behind Report k (inr e) = absurd e
+told-behind FullReport k (inl e) = renumber-behind (Ask FullReport) e (two 1, room 1, around-6)
+told-behind FullReport k (inr e) = absurd e
+
+take-behind : (asked : Request) (k : ℕ) → OneOf (mayGiveBehind (Take asked)) k → GivenBehind (Take asked) k
+take-behind asked k (inl e) = renumber-behind (Take asked) e (two 0, room 0, take-3 edition32 (two 0) asked (room 0) .1 refl)
+take-behind asked k (inr (inl e)) = renumber-behind (Take asked) e (two 1, room 1, gives-4 asked)
+take-behind asked k (inr (inr (inl e))) = renumber-behind (Take asked) e (no-units (up (asked .size)), room 1, take-6 asked)
+take-behind asked k (inr (inr (inr e))) = absurd e
+
+-- a record that is not live gives 5, whatever its number
+not-live-5 : (span : Token) → answerWords edition32 (HandBack span) (two 0) .0 ≡ refused 5
+not-live-5 span = back-5 edition32 (two 0) span (room 0) .1 (not-live 0 (span .number))
+
+back-behind : (span : Token) (k : ℕ) → span .number < edition32 .limit → OneOf (mayGiveBehind (HandBack span)) k → GivenBehind (HandBack span) k
+back-behind span k h (inl e) = renumber-behind (HandBack span) e (two 0, room 0, not-live-5 span)
+back-behind span k h (inr (inl e)) =
+    renumber-behind (HandBack span) e
+    (too-free 131072, too-free-room 131072 (omega arith) (omega arith), back-6 131072 span (omega arith) (omega arith) h)
+back-behind span k h (inr (inr e)) = absurd e
 
 given-behind : (c : Call) (k : ℕ) → OneOf (mayGiveBehind c) k → (w : Words) × (answerWords edition32 c w .0 ≡ refused k)
-given-behind (Take asked) k (inl e) = renumber (Take asked) e (two 0, take-3 edition32 (two 0) asked (room 0) .1 refl)
-given-behind (Take asked) k (inr (inl e)) = renumber (Take asked) e (two 1, gives-4 asked)
-given-behind (Take asked) k (inr (inr (inl e))) = renumber (Take asked) e (gives-6 (Take asked))
-given-behind (Take asked) k (inr (inr (inr e))) = absurd e
-given-behind (HandBack span) k (inl e) =
-    renumber (HandBack span) e (two 0, back-5 edition32 (two 0) span (room 0) .1 (not-live 0 (span .number)))
+given-behind (Take asked) k e = let x = take-behind asked k e in (x .0, x .2)
+given-behind (HandBack span) k (inl e) = renumber (HandBack span) e (two 0, not-live-5 span)
 given-behind (HandBack span) k (inr (inl e)) = renumber (HandBack span) e (gives-6 (HandBack span))
 given-behind (HandBack span) k (inr (inr e)) = absurd e
 given-behind Reset k e = absurd e
-given-behind (Ask q) k e = given-told q k e
+given-behind (Ask q) k e = let x = told-behind q k e in (x .0, x .2)
 
 given : (c : Call) (k : ℕ) → OneOf (mayGive c) k → (w : Words) × (answerWords edition32 c w .0 ≡ refused k)
 given c k (inl e) = renumber c e (gives-6 c)
@@ -149,6 +282,10 @@ all-given = record {
   all-given = given;
   reset-never = λ k e. e;
   size-query-5 = λ span k. (five k, λ e. inl e);
+  take-behind = take-behind;
+  back-behind = back-behind;
+  told-behind = told-behind;
+  given-behind-means = λ c k x. x;
 }
 
 pub every-edition : EveryEdition

@@ -8,7 +8,8 @@ use Rattle.tables.specs.Words.{Words, Edition}
 use Rattle.tables.specs.Gate.{gateOf}
 use Rattle.tables.specs.Take.{TakePlan, whole, split, planTake, doTake}
 use Rattle.tables.specs.HandBack.{BackPlan, merge, planBack, doBack}
-use Rattle.tables.specs.Calls.{toldBy, behind, answerWords}
+use Rattle.tables.specs.Questions.{toldBy}
+use Rattle.tables.specs.Calls.{behind, answerWords}
 use Rattle.tables.specs.Guards.{TakeGuards}
 use Rattle.tables.proofs.Guards.{take-guards}
 use Rattle.tables.proofs.PlanEnds.{gated-ends}

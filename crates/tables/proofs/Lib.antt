@@ -5,9 +5,11 @@
 -- Linked, Lines: runs of records, and the line in them. Masks, MaskEnds, Bits: the two levels of bits. Spares: the pile.
 -- Shelf: class lists, pile and bits together; Insert, Remove, Steps: what the steps make of them.
 -- Place: how a free region comes to be. SoundOf: sound words as a shelf and a line, and back.
--- Search; Grant, TakeSound; Merge, Sides, SizeSound, BackSound; Wiped, SetupSound, SetupWrites; ReportSound, FullReportSound: call by call.
+-- Search; Grant, TakeSound; Merge, Sides, SizeSound, BackSound; Wiped, SetupSound, SetupWrites; ReportSound,
+-- FullReportSound: call by call. Questions: every question, all that is said of it.
 -- OneLedger: what sound words stand for is one ledger. Runs: any call, and runs of calls.
--- Given: rows that speak of every call, size or table. Claims: the record. Promise: what a call promises follows from its being the model's.
+-- Given: rows that speak of every call, size or table. SoundMeans: each part of Sound. Claims: the record. Promise: what a call promises follows from
+-- its being the model's.
 pub mod Answers
 pub mod Fields
 pub mod Written
@@ -47,8 +49,10 @@ pub mod SetupSound
 pub mod SetupWrites
 pub mod ReportSound
 pub mod FullReportSound
+pub mod Questions
 pub mod OneLedger
 pub mod Runs
 pub mod Given
+pub mod SoundMeans
 pub mod Claims
 pub mod Promise

@@ -4,30 +4,29 @@ use mathlib.Core.Path.{_≡_, refl, sym, ap, subst, _∙_}
 use mathlib.Core.Bool.{true, false, cond}
 use mathlib.Core.Logic.{_↔_, inl, inr, _≢_}
 use mathlib.Core.List.{List, [], _∷_}
-use Prim.Native.Nat.{ℕ, suc, _+_, _*_, _<_, _≤_}
+use Prim.Native.Nat.{ℕ, suc, _<_, _≤_}
 use native.Mathlib.Omega.{arith}
-use lib.Dec.{ltb, eqb}
-use lib.ListN.{length, getD, replicate}
+use lib.ListN.{length}
 use Rattle.basics.proofs.Decided.{Same, same, differ, same?, Below, below, beyond, below?}
-use Rattle.small_float.specs.Class.{up, classesInUse}
-use Rattle.ledger.specs.Ledger.{Answer, granted, done, length-is, reported, classes, refused}
-use Rattle.ledger.specs.Calls.{Request, Token, Question, SizeOf, Report, FullReport, Call, Take, HandBack, Reset, Ask}
+use Rattle.small_float.specs.Class.{up}
+use Rattle.ledger.specs.Ledger.{Answer, done, length-is, refused}
+use Rattle.ledger.specs.Calls.{Request, Token, SizeOf, Call, Take, HandBack, Reset, Ask}
 use Rattle.tables.specs.Layout.{dataSize, neighborPrev, neighborNext, used, word}
 use Rattle.tables.specs.Words.{Words, Edition}
 use Rattle.tables.specs.Gate.{gate, setupGate, gateOf}
 use Rattle.tables.specs.Setup.{Lent, fresh, zeros, setupWords}
-use Rattle.tables.specs.Search.{Found, findClass, highBit}
+use Rattle.tables.specs.Search.{Found, findClass}
 use Rattle.tables.specs.Take.{planClass, planTake, doTake}
 use Rattle.tables.specs.HandBack.{isLive, planNeighbours, planBack, doBack}
-use Rattle.tables.specs.Questions.{reportClass, reportLeaf, reportTop, reportOf, lengthOf}
-use Rattle.tables.specs.Questions.{Counts, counts, circular, countFrom, fullAnswer, fullReportOf}
-use Rattle.tables.specs.Calls.{toldBy, behind, answerWords}
+use Rattle.tables.specs.Questions.{lengthOf, toldBy}
+use Rattle.tables.specs.Calls.{behind, answerWords}
 use Rattle.tables.specs.Room.{Room}
-use Rattle.tables.specs.Claims.{BadCount, TooShort, TooLarge, OneOf, mayGive, NotLive, mayGiveBehind, mayTell}
+use Rattle.tables.specs.Claims.{BadCount, TooShort, TooLarge, OneOf, mayGive, NotLive, mayGiveBehind}
 use Rattle.tables.proofs.Gate.{bad-count, too-short, open-gate, gated?, room-not-bad, room-not-short, short-not-bad, call-open}
 use Rattle.tables.proofs.Gate.{SetupCase, count-bad, too-large, table-short, accepted, setup-case, large-not-bad, sizes-pass}
 use Rattle.tables.proofs.Gate.{room-opens, gated-open, gated-shut, call-shut}
-use Rattle.tables.proofs.PlanEnds.{either, class-ends, take-ends, neighbours-ends, back-ends}
+use Rattle.tables.proofs.PlanEnds.{class-ends, take-ends, neighbours-ends, back-ends}
+use Rattle.tables.proofs.Questions.{Gives, told-gives, tell-cases}
 
 -- ---- the gate's two refusals
 module _ (E : Edition) (bad count nodes pile : ℕ) where
@@ -164,15 +163,6 @@ unfolding gateOf
 call-2 E c w h = call-shut E c w 1 (short-shuts E 6 (w .count) (length (w .nodes)) (length (w .pile)) h)
 
 -- ---- which numbers a call gives behind an open gate
--- no refusal, or one with a number of these
-abbrev Gives : List ℕ → Answer → Type 0
-Gives ns (granted o r) = Unit {0}
-Gives ns done = Unit {0}
-Gives ns (length-is s) = Unit {0}
-Gives ns (reported total largest) = Unit {0}
-Gives ns (classes l) = Unit {0}
-Gives ns (refused k) = OneOf ns k
-
 given : (ns : List ℕ) (a : Answer) (k : ℕ) → Gives ns a → a ≡ refused k → OneOf ns k
 given ns a k h e = subst (λ (x : Answer). Gives ns x) e h
 
@@ -200,51 +190,18 @@ module _ (E : Edition) (w : Words) where
   back-gives r =
       back-ends w r (λ p. Gives (5 ∷ 6 ∷ []) (doBack E w r p .0)) (inl refl) (inr (inl refl)) (λ p x p-free x-free m. tt)
 
-  report-gives : Gives (6 ∷ []) (reportOf w)
-  unfolding reportOf reportTop reportLeaf reportClass
-  report-gives =
-      either (Gives (6 ∷ [])) (eqb (w .freeOffset) 0) tt
-      (either (Gives (6 ∷ [])) (eqb (w .usedBinsTop) 0) tt
-      (either (Gives (6 ∷ [])) (eqb m 0) (inl refl)
-      (either (Gives (6 ∷ [])) (ltb (8 * t + highBit m) classesInUse) tt (inl refl))))
-    where
-      t : ℕ
-      t = highBit (w .usedBinsTop)
-
-      m : ℕ
-      m = getD (w .usedBins) t 0
-
-  full-gives : (l : Counts) → Gives (6 ∷ []) (fullAnswer l)
-  unfolding fullAnswer
-  full-gives (counts l) = tt
-  full-gives circular = inl refl
-
-  told-gives : (q : Question) → Gives (mayTell q) (toldBy w q)
-  unfolding toldBy lengthOf fullReportOf
-  told-gives (SizeOf span) = either (Gives (5 ∷ [])) (isLive (w .nodes) (w .count) (span .number)) tt (inl refl)
-  told-gives Report = report-gives
-  told-gives FullReport = full-gives (countFrom 256 w 0 (replicate 256 0))
-
   behind-gives : (c : Call) → Gives (mayGiveBehind c) (behind E c w .0)
   unfolding behind
   behind-gives (Take asked) = take-gives (asked .size)
   behind-gives (HandBack span) = back-gives (span .number)
   behind-gives Reset = tt
-  behind-gives (Ask q) = told-gives q
+  behind-gives (Ask q) = told-gives w q
 
 pub numbers-behind : (E : Edition) (c : Call) (w : Words) → Room E (w .count) (length (w .nodes)) (length (w .pile))
     → (k : ℕ) → answerWords E c w .0 ≡ refused k → OneOf (mayGiveBehind c) k
 numbers-behind E c w room k e = given (mayGiveBehind c) (behind E c w .0) k (behind-gives E w c) (rw (call-open E c w room) at e)
 
 -- ---- behind an open gate no call gives 2
-told-without-2 : (q : Question) → OneOf (mayTell q) 2 → ⊥
-told-without-2 (SizeOf span) (inl e) = omega arith
-told-without-2 (SizeOf span) (inr e) = e
-told-without-2 Report (inl e) = omega arith
-told-without-2 Report (inr e) = e
-told-without-2 FullReport (inl e) = omega arith
-told-without-2 FullReport (inr e) = e
-
 without-2 : (c : Call) → OneOf (mayGiveBehind c) 2 → ⊥
 without-2 (Take asked) (inl e) = omega arith
 without-2 (Take asked) (inr (inl e)) = omega arith
@@ -254,7 +211,7 @@ without-2 (HandBack span) (inl e) = omega arith
 without-2 (HandBack span) (inr (inl e)) = omega arith
 without-2 (HandBack span) (inr (inr e)) = e
 without-2 Reset e = e
-without-2 (Ask q) e = told-without-2 q e
+without-2 (Ask q) e = elim (tell-cases q 2 e) [ inl five ↦ omega (arith, five .0) | inr six ↦ omega arith ]
 
 pub not-2 : (E : Edition) (c : Call) (w : Words) → Room E (w .count) (length (w .nodes)) (length (w .pile))
     → ¬ (answerWords E c w .0 ≡ refused 2)

@@ -4,7 +4,7 @@ use mathlib.Core.List.{List, [], _∷_}
 use Prim.Native.Nat.{ℕ, _≤_, _<_}
 use native.Mathlib.Omega.{arith}
 use Rattle.ledger.specs.Ledger.{Ledger, Answer, done, refused, setup, by-class, Stacks}
-use Rattle.ledger.specs.Calls.{Question, SizeOf, Report, FullReport, Call, Take, HandBack, Reset, Ask, Event, event, told, answer, end, answers, log}
+use Rattle.ledger.specs.Calls.{Call, Take, HandBack, Reset, Ask, Event, event, answer, end, answers, log}
 use Rattle.ledger.specs.WellFormed.{WellFormed}
 use Rattle.ledger.specs.Stretch.{Stretch}
 use Rattle.ledger.specs.Claims.{CanRefuse, too-few-spares, none-reaches, not-live, unknown}
@@ -15,15 +15,13 @@ use Rattle.ledger.proofs.Stretch.{stretch-restores}
 use Rattle.ledger.proofs.ByClass.{class-laws}
 use Rattle.tables.specs.Words.{Words, Edition}
 use Rattle.tables.specs.Setup.{Lent, setupWords}
-use Rattle.tables.specs.Calls.{toldBy, behind, answerWords}
+use Rattle.tables.specs.Calls.{behind, answerWords}
 use Rattle.tables.specs.Sound.{Sound}
 use Rattle.tables.proofs.Gate.{call-open}
 use Rattle.tables.proofs.SoundOf.{room-of}
 use Rattle.tables.proofs.TakeSound.{take-sound}
 use Rattle.tables.proofs.BackSound.{back-sound}
-use Rattle.tables.proofs.SizeSound.{length-is-told}
-use Rattle.tables.proofs.ReportSound.{report-is}
-use Rattle.tables.proofs.FullReportSound.{full-is}
+use Rattle.tables.proofs.Questions.{told-sound}
 use Rattle.tables.proofs.Refusals.{setup-done}
 use Rattle.tables.proofs.SetupSound.{setup-sound, reset-sound}
 
@@ -38,12 +36,6 @@ module _ (E : Edition) where
   opened : (w : Words) (l : Ledger Stacks) → Sound E w l → (c : Call) → answerWords E c w ≡ behind E c w
   opened w l S c = call-open E c w (room-of E w l S)
 
-  question-sound : (w : Words) (l : Ledger Stacks) → Sound E w l → (q : Question) → toldBy w q ≡ told by-class (w .size) (w .count) q l
-  unfolding toldBy told
-  question-sound w l S (SizeOf span) = length-is-told E w l S (span .number)
-  question-sound w l S Report = report-is E w l S
-  question-sound w l S FullReport = full-is E w l S
-
   pub call-sound : (w : Words) (l : Ledger Stacks) → Sound E w l → (c : Call)
       → (answerWords E c w .0 ≡ answer by-class (w .size) (w .count) c l .0)
       × Sound E (answerWords E c w .1) (answer by-class (w .size) (w .count) c l .1)
@@ -51,7 +43,7 @@ module _ (E : Edition) where
   call-sound w l S (Take asked) = rw (opened w l S (Take asked)) (unfold behind in take-sound E w l S (asked .size))
   call-sound w l S (HandBack span) = rw (opened w l S (HandBack span)) (unfold behind in back-sound E w l S (span .number))
   call-sound w l S Reset = reset-sound E w (S .room .of-head .size-fits) (room-of E w l S)
-  call-sound w l S (Ask q) = rw (opened w l S (Ask q)) (unfold behind in (question-sound w l S q, S))
+  call-sound w l S (Ask q) = rw (opened w l S (Ask q)) (unfold behind in (told-sound E w l S q, S))
 
   -- the ledger gives no refusal from 6 on, so the words do not
   pub never-6 : (w : Words) (l : Ledger Stacks) → Sound E w l → (c : Call) → ¬ (answerWords E c w .0 ≡ refused 6)

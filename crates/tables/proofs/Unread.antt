@@ -3,15 +3,15 @@
 use mathlib.Core.Path.{_≡_, refl, ap, ap₂, _∙_, subst}
 use mathlib.Core.Bool.{Bool, true, false, cond}
 use mathlib.Core.List.{List}
-use Prim.Native.Nat.{ℕ, zero, suc, _+_, _-_, _≤_, _<_}
+use Prim.Native.Nat.{ℕ, _+_, _-_, _≤_, _<_}
 use native.Mathlib.Omega.{arith}
 use lib.Dec.{ltb, eqb}
-use lib.ListN.{length, getD, replicate}
+use lib.ListN.{length, getD}
 use Rattle.basics.specs.Sum.{one}
-use Rattle.basics.proofs.Decided.{Below, below, beyond, below?}
+use Rattle.basics.proofs.Decided.{below, beyond, below?}
 use Rattle.small_float.specs.Class.{up}
-use Rattle.ledger.specs.Ledger.{Answer, length-is, refused}
-use Rattle.ledger.specs.Calls.{Question, SizeOf, Report, FullReport, Call, Take, HandBack, Reset, Ask}
+use Rattle.ledger.specs.Ledger.{Answer}
+use Rattle.ledger.specs.Calls.{Call, Take, HandBack, Reset, Ask}
 use Rattle.tables.specs.Layout.{dataOffset, dataSize, binNext, neighborPrev, neighborNext, used, word, nodesNeeded, pileNeeded}
 use Rattle.tables.specs.Words.{Words, Edition, Bounds, bounds, withTables}
 use Rattle.tables.specs.Steps.{popPile}
@@ -19,12 +19,12 @@ use Rattle.tables.specs.Setup.{Lent, blank, fresh, setupWords}
 use Rattle.tables.specs.Search.{Found, class-is, no-class, bad-bits, findClass}
 use Rattle.tables.specs.Take.{TakePlan, whole, split, planSpare, planRegion, planRecord, planClass, planTake, granting, splitting, doTake}
 use Rattle.tables.specs.HandBack.{BackPlan, merge, isLive, isFree, mergedOf, planMerged, planSides, planNeighbours, planBack, merging, doBack}
-use Rattle.tables.specs.Questions.{reportClass, reportLeaf, reportTop, reportOf, listLength, noted, countFrom, fullAnswer, lengthOf, fullReportOf}
-use Rattle.tables.specs.Calls.{toldBy, behind, answerWords}
+use Rattle.tables.specs.Calls.{behind, answerWords}
 use Rattle.tables.specs.Room.{Room}
 use Rattle.tables.specs.Reach.{AgreeOn, Agree}
 use Rattle.tables.specs.Guards.{TakeGuards, BackGuards}
 use Rattle.tables.proofs.Gate.{call-open}
+use Rattle.tables.proofs.Questions.{live-same, told-alike}
 use Rattle.tables.proofs.Refusals.{setup-opens}
 use Rattle.tables.proofs.Guards.{take-guards, back-guards, live-low, free-low}
 use Rattle.tables.proofs.Agreeing.{word-agree, tables-agree, by-tables, insert-agree, unlinkAt-agree, drop-agree}
@@ -113,13 +113,6 @@ module _ (w : Words) (nodes pile : List ℕ) (N : AgreeOn (nodesNeeded (w .count
     | beyond l e ↦ rw e refl
   ]
 
-  live-same : (r : ℕ) → isLive (w .nodes) (w .count) r ≡ isLive nodes (w .count) r
-  unfolding isLive
-  live-same r = elim (below? r (w .count)) [
-    | below l e ↦ rw (e, reads used r (omega arith) l) refl
-    | beyond l e ↦ rw e refl
-  ]
-
   -- of a neighbour that is merged, the words are read alike
   if-free : (f q : ℕ) (t : Bool) → f < 8 → (1 ≤ one t → q < w .count) → {d e : ℕ} → d ≡ e
       → cond t (word (w .nodes) f q) d ≡ cond t (word nodes f q) e
@@ -159,7 +152,7 @@ module _ (w : Words) (nodes pile : List ℕ) (N : AgreeOn (nodesNeeded (w .count
 
   back-same : (r : ℕ) → planBack w r ≡ planBack v r
   unfolding planBack
-  back-same r = rw (← (live-same r)) (at (isLive (w .nodes) (w .count) r) refl)
+  back-same r = rw (← (live-same w nodes pile N P r)) (at (isLive (w .nodes) (w .count) r) refl)
     where
       at : (t : Bool) → isLive (w .nodes) (w .count) r ≡ t
           → cond t (planNeighbours w r (word (w .nodes) neighborPrev r) (word (w .nodes) neighborNext r)) (BackPlan.stop 5)
@@ -185,36 +178,6 @@ module _ (w : Words) (nodes pile : List ℕ) (N : AgreeOn (nodesNeeded (w .count
       subst (λ (p : BackPlan). Alike (w .count) (doBack E w r (planBack w r)) (doBack E v r p)) (back-same r)
       (back-by-plan E r (planBack w r) (back-guards w r))
 
-  -- ---- questions
-  size-same : (r : ℕ) → cond (isLive (w .nodes) (w .count) r) (length-is (word (w .nodes) dataSize r)) (refused 5)
-      ≡ cond (isLive nodes (w .count) r) (length-is (word nodes dataSize r)) (refused 5)
-  size-same r = rw (← (live-same r)) (at (isLive (w .nodes) (w .count) r) refl)
-    where
-      at : (t : Bool) → isLive (w .nodes) (w .count) r ≡ t
-          → cond t (length-is (word (w .nodes) dataSize r)) (refused 5) ≡ cond t (length-is (word nodes dataSize r)) (refused 5)
-      at true e = ap length-is (reads dataSize r (omega arith) (live-low (w .nodes) (w .count) r e))
-      at false e = refl
-
-  report-same : reportOf w ≡ reportOf v
-  unfolding reportOf reportTop reportLeaf reportClass
-  report-same = refl
-
-  walk-same : (fuel a k : ℕ) → listLength fuel (w .nodes) (w .count) a k ≡ listLength fuel nodes (w .count) a k
-  unfolding listLength
-  walk-same zero a k = refl
-  walk-same (suc fuel) a k = at (below? a (w .count)) (λ b. walk-same fuel b (k + 1))
-    where
-      at : Below a (w .count) → ((b : ℕ) → listLength fuel (w .nodes) (w .count) b (k + 1) ≡ listLength fuel nodes (w .count) b (k + 1))
-          → listLength (suc fuel) (w .nodes) (w .count) a k ≡ listLength (suc fuel) nodes (w .count) a k
-      at (below l e) onward = rw (e, reads binNext a (omega arith) l) (onward (word nodes binNext a))
-      at (beyond l e) onward = rw e refl
-
-  counts-same : (k c : ℕ) (so-far : List ℕ) → countFrom k w c so-far ≡ countFrom k v c so-far
-  unfolding countFrom
-  counts-same zero c so-far = refl
-  counts-same (suc k) c so-far =
-      λ i. noted (walk-same (w .count) (getD (w .binIndices) c 0) 0 i) (λ (l : List ℕ). counts-same k (suc c) l i) c so-far
-
 -- ---- setup and reset
 fresh-agree : (E : Edition) (size count : ℕ) {nodes pile others spare : List ℕ} → AgreeOn (nodesNeeded count) nodes others
     → AgreeOn (pileNeeded count) pile spare → Agree count (fresh E size count nodes pile) (fresh E size count others spare)
@@ -239,18 +202,12 @@ setup-not-read E size count a b fits room N P =
 -- ---- every call
 module _ (E : Edition) (w : Words) (nodes pile : List ℕ) (N : AgreeOn (nodesNeeded (w .count)) (w .nodes) nodes)
     (P : AgreeOn (pileNeeded (w .count)) (w .pile) pile) (room : Room E (w .count) (length (w .nodes)) (length (w .pile))) where
-  told-alike : (q : Question) → toldBy w q ≡ toldBy (withTables w nodes pile) q
-  unfolding toldBy lengthOf fullReportOf
-  told-alike (SizeOf span) = size-same w nodes pile N P (span .number)
-  told-alike Report = report-same w nodes pile N P
-  told-alike FullReport = ap fullAnswer (counts-same w nodes pile N P 256 0 (replicate 256 0))
-
   behind-alike : (c : Call) → Alike (w .count) (behind E c w) (behind E c (withTables w nodes pile))
   unfolding behind
   behind-alike (Take asked) = take-alike w nodes pile N P E (asked .size)
   behind-alike (HandBack span) = back-alike w nodes pile N P E (span .number)
   behind-alike Reset = (refl, fresh-agree E (w .size) (w .count) N P)
-  behind-alike (Ask q) = (told-alike q, agree w nodes pile N P)
+  behind-alike (Ask q) = (told-alike w nodes pile N P q, agree w nodes pile N P)
 
   -- the gate is open for both
   call-alike : (c : Call) → Alike (w .count) (answerWords E c w) (answerWords E c (withTables w nodes pile))

@@ -1,22 +1,16 @@
 -- Every call on words under the ledger's one type of calls. Assumes nothing.
 use Rattle.ledger.specs.Ledger.{Answer, done}
-use Rattle.ledger.specs.Calls.{Question, SizeOf, Report, FullReport, Call, Take, HandBack, Reset, Ask}
+use Rattle.ledger.specs.Calls.{Call, Take, HandBack, Reset, Ask}
 use Rattle.tables.specs.Words.{Words, Edition}
 use Rattle.tables.specs.Gate.{gateOf, gated}
 use Rattle.tables.specs.Setup.{fresh}
 use Rattle.tables.specs.Take.{planTake, doTake}
 use Rattle.tables.specs.HandBack.{planBack, doBack}
-use Rattle.tables.specs.Questions.{lengthOf, reportOf, fullReportOf}
+use Rattle.tables.specs.Questions.{toldBy}
 
 -- the edition of the base: 32-bit links, 131,072 records, any 32-bit size
 abbrev pub edition32 : Edition
 edition32 = record { none = 4294967295; limit = 131072; greatest = 4294967295; small = lib.Dec.lit≤ tt; fits = lib.Dec.lit≤ tt }
-
-unfoldable pub toldBy : Words → Question → Answer
-unfolding lengthOf reportOf fullReportOf
-toldBy w (SizeOf span) = lengthOf w (span .number)
-toldBy w Report = reportOf w
-toldBy w FullReport = fullReportOf w
 
 module _ (E : Edition) where
   -- what a call does once its gate is open: a plan and its commit; everything anew; a question leaves every word

@@ -7,12 +7,13 @@ use Prim.Native.Nat.{ℕ, zero, suc, _+_, _*_, _-_, _≤_, _<_}
 use lib.ListN.{length, getD}
 use Rattle.basics.specs.Extreme.{Greatest, Least}
 use Rattle.ledger.specs.Ledger.{Ledger, granted, done, refused, setup, by-class, Stacks}
-use Rattle.ledger.specs.Calls.{Request, Token, Question, SizeOf, Report, FullReport, Call, Take, HandBack, Reset, Ask, answer, end, answers, log}
+use Rattle.ledger.specs.Calls.{Request, Token, SizeOf, FullReport, Call, Take, HandBack, Reset, Ask, answer, end, answers, log}
 use Rattle.ledger.specs.Stretch.{Stretch}
 use Rattle.tables.specs.Layout.{binNext, used, word, nodesNeeded, pileNeeded}
 use Rattle.tables.specs.Words.{Words, Edition}
 use Rattle.tables.specs.Setup.{Lent, zeros, setupWords}
 use Rattle.tables.specs.Search.{class-is, no-class, findClass, highBit}
+use Rattle.tables.specs.Questions.{mayTell}
 use Rattle.tables.specs.Calls.{answerWords}
 use Rattle.tables.specs.Sound.{Sound}
 use Rattle.tables.specs.Room.{Room}
@@ -45,12 +46,7 @@ abbrev pub OneOf : List ℕ → ℕ → Type 0
 OneOf [] k = ⊥
 OneOf (n ∷ ns) k = (k ≡ n) ⊎ OneOf ns k
 
--- the refusals that a question, and a call, can give once the gate is open
-abbrev pub mayTell : Question → List ℕ
-mayTell (SizeOf span) = 5 ∷ []
-mayTell Report = 6 ∷ []
-mayTell FullReport = 6 ∷ []
-
+-- the refusals that a call can give once the gate is open; a question's are in Questions.antt
 abbrev pub mayGiveBehind : Call → List ℕ
 mayGiveBehind (Take asked) = 3 ∷ 4 ∷ 6 ∷ []
 mayGiveBehind (HandBack span) = 5 ∷ 6 ∷ []

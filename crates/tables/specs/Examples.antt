@@ -3,15 +3,18 @@
 use mathlib.Core.Path.{_≡_}
 use mathlib.Core.Logic.{_↔_}
 use Prim.Native.Nat.{ℕ, _^_, _≤_, _<_}
-use mathlib.Core.List.{List, [], _∷_}
+use mathlib.Core.List.{List, [], _∷_, map}
 use lib.ListN.{length, set, replicate}
 use Rattle.ledger.specs.Ledger.{Answer, granted, done, length-is, reported, refused}
-use Rattle.ledger.specs.Calls.{Request, Token, SizeOf, Report, FullReport, Call, Take, Reset, Ask, takes, hands-back, asks-size, answers, end}
+use Rattle.ledger.specs.Calls.{Request, Token, Question, SizeOf, Report, FullReport, Call, Take, HandBack, Reset, Ask}
+use Rattle.ledger.specs.Calls.{takes, hands-back, asks-size, answers, end}
 use Rattle.ledger.specs.Runs.{the-calls, the-answers}
 use Rattle.tables.specs.Layout.{dataOffset, dataSize, binNext, put, nodesNeeded, pileNeeded}
-use Rattle.tables.specs.Words.{Words, Edition, withNodes}
+use Rattle.tables.specs.Words.{Words, Edition, withNodes, withLists, withTotal}
+use Rattle.tables.specs.Gate.{gate, setupGate}
 use Rattle.tables.specs.Setup.{Lent, tablesAlone, setupWords}
 use Rattle.tables.specs.Calls.{edition32, answerWords}
+use Rattle.tables.specs.Room.{Room}
 use Rattle.tables.specs.Claims.{OneOf, mayGiveBehind, mayGive}
 
 unfoldable pub desk : (size count : ℕ) → Words
@@ -36,7 +39,7 @@ pub record RunOnWords : Type 0 where
 
 -- ---- the words of that store after its first two takes
 abbrev pub none : ℕ
-none = 4294967295
+none = edition32 .none
 
 abbrev pub afterTwo : Words
 afterTwo = end (answerWords edition32) (takes 20 ∷ takes 30 ∷ []) (desk 100 6)
@@ -95,10 +98,40 @@ pub record Spoiled : Type 0 where
   pub outside : answerWords edition32 (takes 20) (spoiled dataOffset 1) ≡ (refused 6, spoiled dataOffset 1)
   -- a list that comes back to its own record
   pub around : answerWords edition32 (Ask FullReport) (spoiled binNext 0) ≡ (refused 6, spoiled binNext 0)
+  -- a kept total that a span of 20, handed back, would take past the size; one less, and it does not
+  pub total-past : answerWords edition32 (hands-back 0) (withTotal afterTwo 81) .0 ≡ refused 6
+  pub total-just : answerWords edition32 (hands-back 0) (withTotal afterTwo 80) .0 ≡ done
   -- nothing else is spoiled: with the word that belongs there, it is the fresh store, where neither call is refused
   pub right-size : spoiled dataSize 100 ≡ desk 100 6
   pub right-offset : spoiled dataOffset 0 ≡ desk 100 6
   pub right-link : spoiled binNext none ≡ desk 100 6
+
+-- ---- the bits spoiled in a fresh store, whose one region is of class 36: bit 4 of leaf byte 4, under bit 4 of the top word
+unfoldable pub spoiledBits : (top : ℕ) → (leaves : List ℕ) → Words
+unfolding desk
+spoiledBits top leaves = withLists (desk 100 6) top leaves (desk 100 6 .binIndices) (desk 100 6 .nodes)
+
+pub record SpoiledBits : Type 0 where
+  -- a top bit over a leaf byte of 0 is no empty class (4) but a contradiction, to a take that comes to it and to the report
+  pub bare-top-bit : answerWords edition32 (takes 1) (spoiledBits 16 (replicate 32 0)) .0 ≡ refused 6
+  pub bare-top-report : answerWords edition32 (Ask Report) (spoiledBits 16 (replicate 32 0)) .0 ≡ refused 6
+  -- where no top bit is set, the report has the kept total, and 0
+  pub no-top-bit : answerWords edition32 (Ask Report) (spoiledBits 0 (replicate 32 0)) .0 ≡ reported 100 0
+  -- of the classes 239 is the last that a report names; 240 is none in use
+  pub class-239 : answerWords edition32 (Ask Report) (spoiledBits 536870912 (set (replicate 32 0) 29 128)) .0 ≡ reported 100 4026531840
+  pub class-240 : answerWords edition32 (Ask Report) (spoiledBits 1073741824 (set (replicate 32 0) 30 1)) .0 ≡ refused 6
+
+-- ---- the gate, at both ends of the count and at the length of each table; and at setup the size, in an edition of 99 units
+abbrev pub edition99 : Edition
+edition99 = record { none = 4294967295; limit = 131072; greatest = 99; small = lib.Dec.lit≤ tt; fits = lib.Dec.lit≤ tt }
+
+pub record GateRows : Type 0 where
+  pub counts : map (λ (count : ℕ). gate edition32 6 count 2000000 200000) (1 ∷ 2 ∷ 131072 ∷ 131073 ∷ []) ≡ 6 ∷ 0 ∷ 0 ∷ 6 ∷ []
+  pub nodes : map (λ (nodes : ℕ). gate edition32 6 2 nodes 2) (15 ∷ 16 ∷ []) ≡ 2 ∷ 0 ∷ []
+  pub piles : map (λ (pile : ℕ). gate edition32 6 2 16 pile) (1 ∷ 2 ∷ []) ≡ 2 ∷ 0 ∷ []
+  pub sizes : map (λ (size : ℕ). setupGate edition99 size 2 16 2) (99 ∷ 100 ∷ []) ≡ 0 ∷ 10 ∷ []
+  -- the count before the size, and the size before the lengths
+  pub order : setupGate edition99 100 1 0 0 ∷ setupGate edition99 100 2 0 0 ∷ setupGate edition99 99 2 0 0 ∷ [] ≡ 1 ∷ 10 ∷ 2 ∷ []
 
 -- ---- "Count 1 is refused, 2 accepted though every take gives 3; 131,072 is accepted, 131,073 refused."
 -- tables that are long enough for a count
@@ -110,13 +143,13 @@ pub record CountRows : Type 0 where
   pub count-2 : (size : ℕ) (lent : Lent) → size < 2 ^ 32 → LongEnough 2 lent → setupWords edition32 size 2 lent .0 ≡ done
   pub takes-of-2 : (size : ℕ) (lent : Lent) → size < 2 ^ 32 → LongEnough 2 lent → (cs : List Call) (asked : Request)
       → answerWords edition32 (Take asked) (end (answerWords edition32) cs (setupWords edition32 size 2 lent .1)) .0 ≡ refused 3
-  pub count-131072 : (size : ℕ) (lent : Lent) → size < 2 ^ 32 → LongEnough 131072 lent → setupWords edition32 size 131072 lent .0 ≡ done
-  pub count-131073 : (size : ℕ) (lent : Lent) → setupWords edition32 size 131073 lent .0 ≡ refused 1
+  pub greatest-count : (size : ℕ) (lent : Lent) → size < 2 ^ 32 → LongEnough 131072 lent → setupWords edition32 size 131072 lent .0 ≡ done
+  pub one-too-many : (size : ℕ) (lent : Lent) → setupWords edition32 size 131073 lent .0 ≡ refused 1
   -- every 32-bit size is one of this edition, so its setup gives 1 and 2 alone
   pub setup-32 : (size count : ℕ) (lent : Lent) (k : ℕ) → size < 2 ^ 32 → setupWords edition32 size count lent .0 ≡ refused k
       → OneOf (1 ∷ 2 ∷ []) k
   -- LongEnough asks no more than it must: without it, a count that would do is refused as 2
-  pub not-long-enough : (size count : ℕ) (lent : Lent) → size < 2 ^ 32 → 2 ≤ count → count ≤ 131072 → ¬ LongEnough count lent
+  pub not-long-enough : (size count : ℕ) (lent : Lent) → size < 2 ^ 32 → 2 ≤ count → count ≤ edition32 .limit → ¬ LongEnough count lent
       → setupWords edition32 size count lent .0 ≡ refused 2
   -- "refused, it returns one of zeros": by value, the arrays too
   pub one-of-zeros : (size : ℕ) (nodes pile : List ℕ) → setupWords edition32 size 1 (tablesAlone nodes pile) .1
@@ -133,11 +166,24 @@ pub record CountRows : Type 0 where
       }
 
 -- ---- every number that `mayGive` names is given, on some words
+-- the call gives this number on words whose gate is open
+abbrev pub GivenBehind : Call → (k : ℕ) → Type 0
+GivenBehind c k =
+    (w : Words) × Room edition32 (w .count) (length (w .nodes)) (length (w .pile)) × (answerWords edition32 c w .0 ≡ refused k)
+
 pub record AllGiven : Type 0 where
   pub all-given : (c : Call) (k : ℕ) → OneOf (mayGive c) k → (w : Words) × (answerWords edition32 c w .0 ≡ refused k)
   -- and behind an open gate no number is named that is not meant: a reset is never refused there, a size query with 5 alone
   pub reset-never : (k : ℕ) → ¬ OneOf (mayGiveBehind Reset) k
   pub size-query-5 : (span : Token) (k : ℕ) → OneOf (mayGiveBehind (Ask (SizeOf span))) k ↔ (k ≡ 5)
+  -- and every number that is named there is given there, the 6 of a take, of a hand-back and of both reports among them: for a take of any size, for
+  -- any record that a store can have, and for every question
+  pub take-behind : (asked : Request) (k : ℕ) → OneOf (mayGiveBehind (Take asked)) k → GivenBehind (Take asked) k
+  pub back-behind : (span : Token) (k : ℕ) → span .number < edition32 .limit → OneOf (mayGiveBehind (HandBack span)) k → GivenBehind (HandBack span) k
+  pub told-behind : (q : Question) (k : ℕ) → OneOf (mayGiveBehind (Ask q)) k → GivenBehind (Ask q) k
+  -- a number given behind an open gate is given by words for which there is room, no less
+  pub given-behind-means : (c : Call) (k : ℕ) → GivenBehind c k
+      → (w : Words) × Room edition32 (w .count) (length (w .nodes)) (length (w .pile)) × (answerWords edition32 c w .0 ≡ refused k)
 
 -- ---- any marker that no record below the limit can have makes an edition, so the claims are of all of these
 pub record EveryEdition : Type 0 where

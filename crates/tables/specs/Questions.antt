@@ -1,11 +1,12 @@
 -- What the questions answer on words: size query, and both reports. Assumes nothing.
 use mathlib.Core.Bool.{cond}
-use mathlib.Core.List.{List, map}
+use mathlib.Core.List.{List, [], _∷_, map}
 use Prim.Native.Nat.{ℕ, zero, suc, _+_, _*_}
 use lib.Dec.{ltb, eqb}
 use lib.ListN.{getD, set, replicate}
 use Rattle.small_float.specs.Class.{value, shownValue, classesInUse}
 use Rattle.ledger.specs.Ledger.{Answer, length-is, reported, classes, refused, numbersFrom}
+use Rattle.ledger.specs.Calls.{Question, SizeOf, Report, FullReport}
 use Rattle.tables.specs.Layout.{dataSize, binNext, word}
 use Rattle.tables.specs.Words.{Words}
 use Rattle.tables.specs.Search.{highBit}
@@ -67,3 +68,15 @@ fullAnswer circular = refused 6
 unfoldable pub fullReportOf : Words → Answer
 unfolding fullAnswer countFrom
 fullReportOf w = fullAnswer (countFrom 256 w 0 (replicate 256 0))
+
+-- ---- every question, and the refusals that each can give once the gate is open
+unfoldable pub toldBy : Words → Question → Answer
+unfolding lengthOf reportOf fullReportOf
+toldBy w (SizeOf span) = lengthOf w (span .number)
+toldBy w Report = reportOf w
+toldBy w FullReport = fullReportOf w
+
+abbrev pub mayTell : Question → List ℕ
+mayTell (SizeOf span) = 5 ∷ []
+mayTell Report = 6 ∷ []
+mayTell FullReport = 6 ∷ []

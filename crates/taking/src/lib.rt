@@ -12,16 +12,13 @@ ghost use Rattle.bins.specs.InWords.{wordsOf, HasRoom};
 ghost use Rattle.answers.specs.Answers.{takeSays};
 ghost use Rattle.taking.specs.Answers.{TakesAsPlanned};
 use answers::Allocation;
-use answers::Handle;
 use answers::Refusal;
 use answers::TakeAnswer;
 use bins::gate::Gate;
 use bins::totals::Totals;
-use plan::Planned;
 use small_float::Size;
-
-mod commit;
-mod plan;
+use take_plan::Planned;
+use take_plan::Region;
 
 pub struct Taken {
     pub answer: TakeAnswer,
@@ -37,12 +34,13 @@ fn refuse(why: Refusal, t: Totals) -> Taken
     }
 }
 
-fn grant(offset: u32, r: u32, t: Totals) -> Taken
-    ensures { λ g. ⌜ (takeSays (g .answer) ≡ granted offset r) × (g .totals ≡ t) ⌝ }
+fn grant(region: Region, t: Totals) -> Taken
+    ensures { λ g. ⌜ (takeSays (g .answer) ≡ granted (region .offset) (region .record .0)) × (g .totals ≡ t) ⌝ }
 {
+    let record = region.record;
     let span = Allocation {
-        offset: offset,
-        metadata: Handle(r),
+        offset: region.offset,
+        metadata: record,
     };
     Taken {
         answer: TakeAnswer::Granted(span),
@@ -57,35 +55,24 @@ fn take(
     used_bins: &mut [u8; 32],
     nodes: &mut [u32],
     free_nodes: &[u32],
-    size: u32,
+    size: Size,
 ) -> Taken
     requires { ⌜ HasRoom (t .«max_allocs») (now nodes) ⌝ }
     requires { ⌜ t .«max_allocs» ≤ length (now «free_nodes») ⌝ }
-    ensures { λ a. ⌜ TakesAsPlanned size
+    ensures { λ a. ⌜ TakesAsPlanned (size .0)
         (wordsOf t (now («bin_indices» .entry)) (now («used_bins» .entry)) (now (nodes .entry)) (now («free_nodes» .entry)))
         (wordsOf (a .totals) (now («bin_indices» .exit)) (now («used_bins» .exit)) (now (nodes .exit)) (now («free_nodes» .entry)))
         (takeSays (a .answer)) ⌝ }
 {
-    match plan::plan(t, bin_indices, used_bins, nodes, free_nodes, size) {
+    match take_plan::plan(t, bin_indices, used_bins, nodes, free_nodes, size) {
         Planned::Stop(why) => refuse(why, t),
-        Planned::Whole(c, r, offset) => {
-            let u = commit::grant_whole(bin_indices, used_bins, nodes, t, size, c, r, offset);
-            grant(offset, r, u)
+        Planned::Whole(region) => {
+            let u = take_commit::grant_whole(bin_indices, used_bins, nodes, t, size, region);
+            grant(region, u)
         }
-        Planned::Split(c, r, offset, rest, m) => {
-            let u = commit::grant_part(
-                bin_indices,
-                used_bins,
-                nodes,
-                t,
-                size,
-                c,
-                r,
-                offset,
-                rest,
-                m,
-            );
-            grant(offset, r, u)
+        Planned::Split(region, rest) => {
+            let u = take_commit::grant_part(bin_indices, used_bins, nodes, t, size, region, rest);
+            grant(region, u)
         }
     }
 }
@@ -106,6 +93,6 @@ pub fn allocate(
 {
     match bins::gate::test(t.max_allocs, nodes, free_nodes, Refusal::Unsound) {
         Gate::Shut(why) => refuse(why, t),
-        Gate::Open => take(t, bin_indices, used_bins, nodes, free_nodes, size.0),
+        Gate::Open => take(t, bin_indices, used_bins, nodes, free_nodes, size),
     }
 }

@@ -2,8 +2,8 @@
 use mathlib.Core.Path.{sym, _∙_}
 use mathlib.Core.List.{[]}
 use Rattle.ledger.specs.Calls.{SizeOf, Ask}
-use Rattle.tables.specs.Questions.{lengthOf}
-use Rattle.tables.specs.Calls.{edition32, toldBy}
+use Rattle.tables.specs.Questions.{lengthOf, toldBy}
+use Rattle.tables.specs.Calls.{edition32}
 use Rattle.tables.proofs.Promise.{promise}
 use Rattle.tables.proofs.Guards.{live-low}
 use Rattle.bins.specs.InWords.{wordsOf}

@@ -1,7 +1,7 @@
 -- Shut out by the gate, or let in. Assumes nothing.
 use Rattle.ledger.specs.Calls.{Report, Ask}
-use Rattle.tables.specs.Questions.{reportClass, reportLeaf, reportTop, reportOf}
-use Rattle.tables.specs.Calls.{edition32, toldBy}
+use Rattle.tables.specs.Questions.{reportClass, reportLeaf, reportTop, reportOf, toldBy}
+use Rattle.tables.specs.Calls.{edition32}
 use Rattle.tables.proofs.Promise.{promise}
 use Rattle.bins.proofs.GateWalk.{shut-out, opened}
 use Rattle.asking.proofs.Walk.{question-answered}

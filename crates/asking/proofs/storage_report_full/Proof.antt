@@ -1,8 +1,8 @@
 -- Shut out by the gate, or let in. Assumes nothing.
 use mathlib.Core.List.{[]}
 use Rattle.ledger.specs.Calls.{FullReport, Ask}
-use Rattle.tables.specs.Questions.{fullReportOf}
-use Rattle.tables.specs.Calls.{edition32, toldBy}
+use Rattle.tables.specs.Questions.{fullReportOf, toldBy}
+use Rattle.tables.specs.Calls.{edition32}
 use Rattle.tables.proofs.Promise.{promise}
 use Rattle.bins.specs.InWords.{wordsOf}
 use Rattle.bins.proofs.GateWalk.{shut-out, opened, has-room}

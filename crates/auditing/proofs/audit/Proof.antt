@@ -4,7 +4,7 @@ use Rattle.tables.specs.Calls.{edition32}
 use Rattle.bins.specs.InWords.{wordsOf}
 use Rattle.bins.proofs.GateWalk.{opened, has-room}
 use Rattle.auditing.proofs.Verdicts.{shut-out, let-in}
-use Rattle.auditing.proofs.Promise.{audit-promise}
+use Rattle.audit_words.proofs.Promise.{audit-promise}
 use borrow.Author.Needs.{needs}
 use Rattle.auditing.proofs.audit.Statement.{statement}
 use Rattle.auditing.proofs.audit.Tie as tie

@@ -1,6 +1,6 @@
 -- Yes is `done`. Assumes nothing.
 use mathlib.Core.Path.{refl}
-use Rattle.auditing.specs.Audit.{verdict}
+use Rattle.audit_words.specs.Audit.{verdict}
 use Rattle.auditing.proofs.verdict.Statement.{statement}
 use Rattle.auditing.proofs.verdict.Tie as tie
 

@@ -3,9 +3,9 @@ use mathlib.Core.Path.{refl, sym, ap, _∙_}
 use Prim.Native.Nat.{_+_, _≤_, _<_}
 use borrow.Author.Tests.{not-true, not-false}
 use Rattle.tables.specs.Calls.{edition32}
-use Rattle.auditing.specs.Scratch.{cleared}
-use Rattle.auditing.specs.Audit.{recordsAreSound}
-use Rattle.auditing.proofs.Cleared.{marks-cleared}
+use Rattle.audit_words.specs.Scratch.{cleared}
+use Rattle.audit_words.specs.Audit.{recordsAreSound}
+use Rattle.audit_words.proofs.Cleared.{marks-cleared}
 use Rattle.auditing.proofs.Verdicts.{no-room, pile-refused, records-decide}
 use native.Mathlib.Omega.{arith}
 use borrow.Author.Needs.{needs}

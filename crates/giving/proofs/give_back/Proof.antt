@@ -1,7 +1,7 @@
 -- Stopped by the plan, or merged; what the commit requires the plan has made sure of. Assumes nothing.
 use mathlib.Core.Path.{sym, ap, _∙_}
 use mathlib.Core.List.{[]}
-use Rattle.giving.specs.Answers.{planOf}
+use Rattle.back_plan.specs.Plan.{planOf}
 use Rattle.giving.proofs.Walk.{stopped, answered, merged-back, ready}
 use borrow.Author.Needs.{needs}
 use Rattle.giving.proofs.give_back.Statement.{statement}

@@ -1,7 +1,7 @@
 -- Each arm of the plan is the model's, and what its commit requires the plan has made sure of. Assumes nothing.
 use mathlib.Core.Path.{sym, ap, _∙_}
 use Rattle.tables.specs.Calls.{edition32}
-use Rattle.taking.specs.Answers.{planOf}
+use Rattle.take_plan.specs.Plan.{planOf}
 use Rattle.taking.proofs.Ready.{whole-ready, split-ready}
 use Rattle.taking.proofs.Walk.{outcome, stopped, taken-whole, taken-part}
 use native.Mathlib.Omega.{arith}
@@ -18,26 +18,26 @@ enum-known-why c = search needs
 refuse-requires : tie.Need-refuse-requires
 refuse-requires c κs = search needs
 
-enum-known-c : tie.Need-enum-known-c
-enum-known-c c = search needs
+enum-known-region : tie.Need-enum-known-region
+enum-known-region c = search needs
 
 grant-whole-requires : tie.Need-grant-whole-requires
 grant-whole-requires c κs =
     let found = c .before .before .before .before in
     let planned = found .before .before in
-    (omega arith, whole-ready _ _ _ _ _ (sym (planned .plan .ensures) ∙ ap planOf (found .c .given .1)))
+    (omega arith, whole-ready _ _ _ _ _ (sym (planned .plan .ensures) ∙ ap planOf (found .region .given .1)))
 
 grant-requires : tie.Need-grant-requires
 grant-requires c κs = search needs
 
-enum-known-c-2 : tie.Need-enum-known-c-2
-enum-known-c-2 c = search needs
+enum-known-region-2 : tie.Need-enum-known-region-2
+enum-known-region-2 c = search needs
 
 grant-part-requires : tie.Need-grant-part-requires
 grant-part-requires c κs =
     let found = c .before .before .before .before in
     let planned = found .before .before in
-    (omega arith, split-ready _ _ _ _ _ (sym (planned .plan .ensures) ∙ ap planOf (found .c2 .given .1)))
+    (omega arith, split-ready _ _ _ _ _ (sym (planned .plan .ensures) ∙ ap planOf (found .region2 .given .1)))
 
 grant-requires-2 : tie.Need-grant-requires-2
 grant-requires-2 c κs = search needs
@@ -61,7 +61,7 @@ returns-2 c =
     let found = done .before .before .before .before .before in
     let planned = found .before .before in
     outcome _ _ _ _ (c .grant .ensures .0) (c .grant .ensures .1)
-    ∙ taken-whole edition32 _ _ (sym (planned .plan .ensures) ∙ ap planOf (found .c .given .1)) (done .grant-whole .ensures _)
+    ∙ taken-whole edition32 _ _ (sym (planned .plan .ensures) ∙ ap planOf (found .region .given .1)) (done .grant-whole .ensures _)
 
 same-length-3 : tie.Need-same-length-3
 same-length-3 c = search needs
@@ -72,7 +72,7 @@ returns-3 c =
     let found = done .before .before .before .before .before in
     let planned = found .before .before in
     outcome _ _ _ _ (c .grant2 .ensures .0) (c .grant2 .ensures .1)
-    ∙ taken-part edition32 _ _ (sym (planned .plan .ensures) ∙ ap planOf (found .c2 .given .1)) (done .grant-part .ensures _)
+    ∙ taken-part edition32 _ _ (sym (planned .plan .ensures) ∙ ap planOf (found .region2 .given .1)) (done .grant-part .ensures _)
 
 pub take-spec : {M : Type 1} → statement M
 take-spec =
@@ -81,10 +81,10 @@ take-spec =
     plan-requires
     enum-known-why
     refuse-requires
-    enum-known-c
+    enum-known-region
     grant-whole-requires
     grant-requires
-    enum-known-c-2
+    enum-known-region-2
     grant-part-requires
     grant-requires-2
     same-length

@@ -30,11 +30,11 @@ class-sizes-requires c κs = search needs
 loop-holds : tie.Need-loop-holds Inv-loop μ-loop
 loop-holds c = (search needs, refl, λ leaves pile. refl)
 
-mul-list-length : tie.Need-mul-list-length Inv-loop μ-loop
-mul-list-length c = search needs
+mul-top : tie.Need-mul-top Inv-loop μ-loop
+mul-top c = search needs
 
-element-copy-out-list-length : tie.Need-element-copy-out-list-length Inv-loop μ-loop
-element-copy-out-list-length c = search needs
+element-copy-out-top : tie.Need-element-copy-out-top Inv-loop μ-loop
+element-copy-out-top c = search needs
 
 list-length-requires : tie.Need-list-length-requires Inv-loop μ-loop
 list-length-requires c κs = search needs
@@ -101,8 +101,8 @@ count-spec =
     μ-loop
     class-sizes-requires
     loop-holds
-    mul-list-length
-    element-copy-out-list-length
+    mul-top
+    element-copy-out-top
     list-length-requires
     enum-known-walked
     enum-told

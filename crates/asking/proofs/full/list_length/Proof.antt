@@ -10,12 +10,12 @@ use Rattle.asking.proofs.full.list_length.Statement.{statement}
 use Rattle.asking.proofs.full.list_length.Tie as tie
 
 abbrev Inv-loop : tie.InvT-loop
-Inv-loop nodes max-allocs first node₀ n₀ node n =
+Inv-loop nodes max-allocs start node₀ n₀ node n =
     (n ≤ max-allocs)
-    × (listLength max-allocs nodes max-allocs first 0 ≡ listLength (max-allocs - n) nodes max-allocs node n)
+    × (listLength max-allocs nodes max-allocs start 0 ≡ listLength (max-allocs - n) nodes max-allocs node n)
 
 abbrev μ-loop : tie.MeasureT-loop
-μ-loop nodes max-allocs first node₀ n₀ node n = max-allocs - n
+μ-loop nodes max-allocs start node₀ n₀ node n = max-allocs - n
 
 loop-holds : tie.Need-loop-holds Inv-loop μ-loop
 loop-holds c = (search needs, rw sub-zero)
@@ -46,13 +46,4 @@ returns-2 c = sym (c .before .loop .inv .1 ∙ list-ends _ _ _ _ (c .loop-test .
 pub list-length-spec : {M : Type 1} → statement M
 list-length-spec =
     tie.close
-    (tie.spec
-    Inv-loop
-    μ-loop
-    loop-holds
-    returns
-    word-requires
-    add-n
-    loop-less
-    loop-again
-    returns-2)
+    (tie.spec Inv-loop μ-loop loop-holds returns word-requires add-n loop-less loop-again returns-2)

@@ -9,14 +9,14 @@ returns : tie.Need-returns
 unfolding reportLeaf
 returns c = rw (eq-eqb _ _ (c .if1 .taken))
 
-mul-report-class : tie.Need-mul-report-class
-mul-report-class c = search needs
+mul-class : tie.Need-mul-class
+mul-class c = search needs
 
 highest-bit-set-requires : tie.Need-highest-bit-set-requires
 highest-bit-set-requires c κs = search needs
 
-add-report-class : tie.Need-add-report-class
-add-report-class c = search needs
+add-class : tie.Need-add-class
+add-class c = search needs
 
 report-class-requires : tie.Need-report-class-requires
 report-class-requires c κs = search needs
@@ -28,10 +28,4 @@ returns-2 c = rw (c .report-class .ensures, c .before .highest-bit-set .ensures 
 pub report-leaf-spec : {M : Type 1} → statement M
 report-leaf-spec =
     tie.close
-    (tie.spec
-    returns
-    mul-report-class
-    highest-bit-set-requires
-    add-report-class
-    report-class-requires
-    returns-2)
+    (tie.spec returns mul-class highest-bit-set-requires add-class report-class-requires returns-2)

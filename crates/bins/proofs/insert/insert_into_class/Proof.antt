@@ -4,11 +4,14 @@ use borrow.Author.Needs.{needs}
 use Rattle.bins.proofs.insert.insert_into_class.Statement.{statement}
 use Rattle.bins.proofs.insert.insert_into_class.Tie as tie
 
-mul-old-top : tie.Need-mul-old-top
-mul-old-top c = search needs
+cast-i : tie.Need-cast-i
+cast-i c = search needs
 
-element-copy-out-old-top : tie.Need-element-copy-out-old-top
-element-copy-out-old-top c = search needs
+mul-top-link : tie.Need-mul-top-link
+mul-top-link c = search needs
+
+element-copy-out-top-link : tie.Need-element-copy-out-top-link
+element-copy-out-top-link c = search needs
 
 mark-requires : tie.Need-mark-requires
 mark-requires c κs = search needs
@@ -49,8 +52,9 @@ pub insert-into-class-spec : {M : Type 1} → statement M
 insert-into-class-spec =
     tie.close
     (tie.spec
-    mul-old-top
-    element-copy-out-old-top
+    cast-i
+    mul-top-link
+    element-copy-out-top-link
     mark-requires
     write-record-requires
     join-neighbors-requires

@@ -1,4 +1,4 @@
--- The span, then six writes, one after the other. Assumes nothing.
+-- The span, the links, then two writes, one after the other. Assumes nothing.
 use Rattle.tables.specs.Steps.{insertNodes}
 use borrow.Author.Needs.{needs}
 use Rattle.bins.proofs.insert.write_record.Statement.{statement}
@@ -7,20 +7,11 @@ use Rattle.bins.proofs.insert.write_record.Tie as tie
 write-span-requires : tie.Need-write-span-requires
 write-span-requires c κs = search needs
 
+write-links-requires : tie.Need-write-links-requires
+write-links-requires c κs = search needs
+
 put-requires : tie.Need-put-requires
 put-requires c κs = search needs
-
-put-requires-2 : tie.Need-put-requires-2
-put-requires-2 c κs = search needs
-
-put-requires-3 : tie.Need-put-requires-3
-put-requires-3 c κs = search needs
-
-put-requires-4 : tie.Need-put-requires-4
-put-requires-4 c κs = search needs
-
-put-requires-5 : tie.Need-put-requires-5
-put-requires-5 c κs = search needs
 
 put-link-requires : tie.Need-put-link-requires
 put-link-requires c κs = search needs
@@ -35,13 +26,4 @@ returns c = cc
 pub write-record-spec : {M : Type 1} → statement M
 write-record-spec =
     tie.close
-    (tie.spec
-    write-span-requires
-    put-requires
-    put-requires-2
-    put-requires-3
-    put-requires-4
-    put-requires-5
-    put-link-requires
-    same-length
-    returns)
+    (tie.spec write-span-requires write-links-requires put-requires put-link-requires same-length returns)

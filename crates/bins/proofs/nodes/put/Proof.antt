@@ -5,6 +5,9 @@ use borrow.Author.Needs.{needs}
 use Rattle.bins.proofs.nodes.put.Statement.{statement}
 use Rattle.bins.proofs.nodes.put.Tie as tie
 
+cast-nodes : tie.Need-cast-nodes
+cast-nodes c = search needs
+
 mul-nodes : tie.Need-mul-nodes
 mul-nodes c = search needs
 
@@ -26,4 +29,4 @@ returns c = refl
 
 pub put-spec : {M : Type 1} → statement M
 put-spec =
-    tie.close (tie.spec mul-nodes add-nodes mul-nodes-2 slice-write-nodes same-length returns)
+    tie.close (tie.spec cast-nodes mul-nodes add-nodes mul-nodes-2 slice-write-nodes same-length returns)

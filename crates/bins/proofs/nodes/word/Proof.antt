@@ -5,6 +5,9 @@ use borrow.Author.Needs.{needs}
 use Rattle.bins.proofs.nodes.word.Statement.{statement}
 use Rattle.bins.proofs.nodes.word.Tie as tie
 
+cast-result : tie.Need-cast-result
+cast-result c = search needs
+
 mul-result : tie.Need-mul-result
 mul-result c = search needs
 
@@ -23,4 +26,4 @@ returns c = refl
 
 pub word-spec : {M : Type 1} → statement M
 word-spec =
-    tie.close (tie.spec mul-result add-result mul-result-2 shared-slice-read-result returns)
+    tie.close (tie.spec cast-result mul-result add-result mul-result-2 shared-slice-read-result returns)

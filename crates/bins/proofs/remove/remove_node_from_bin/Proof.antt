@@ -1,5 +1,4 @@
 -- The class is that of the record's size, and the links are the record's. Assumes nothing.
-use Rattle.small_float.proofs.Rounding.{down-most}
 use Rattle.tables.specs.Steps.{unlink}
 use native.Mathlib.Omega.{arith}
 use borrow.Author.Needs.{needs}
@@ -9,8 +8,8 @@ use Rattle.bins.proofs.remove.remove_node_from_bin.Tie as tie
 word-requires : tie.Need-word-requires
 word-requires c κs = search needs
 
-uint-to-float-round-down-requires : tie.Need-uint-to-float-round-down-requires
-uint-to-float-round-down-requires c κs = search needs
+class-of-requires : tie.Need-class-of-requires
+class-of-requires c κs = search needs
 
 word-requires-2 : tie.Need-word-requires-2
 word-requires-2 c κs = search needs
@@ -21,7 +20,7 @@ word-requires-3 c κs = search needs
 remove-from-class-requires : tie.Need-remove-from-class-requires
 remove-from-class-requires c κs =
     let d = c .before .before .before .before .before .before .before in
-    (omega (arith, d .uint-to-float-round-down .ensures, down-most (d .before .word .result) (omega (arith, d .before .word .ok))), omega arith)
+    (d .class-of .ensures .1, omega arith)
 
 same-length : tie.Need-same-length
 same-length c = search needs
@@ -34,7 +33,7 @@ returns c ps =
       c .before .before .remove-from-class .ensures ps,
       links .word3 .ensures,
       links .before .before .word2 .ensures,
-      links .before .before .before .before .uint-to-float-round-down .ensures,
+      links .before .before .before .before .class-of .ensures .0,
       links .before .before .before .before .before .word .ensures,
     )
 
@@ -43,7 +42,7 @@ remove-node-from-bin-spec =
     tie.close
     (tie.spec
     word-requires
-    uint-to-float-round-down-requires
+    class-of-requires
     word-requires-2
     word-requires-3
     remove-from-class-requires

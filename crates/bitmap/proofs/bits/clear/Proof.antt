@@ -39,7 +39,7 @@ sub-result c = search needs
 
 returns : tie.Need-returns
 returns c =
-    let k = c .before .before .args .c in
+    let k = c .before .before .before .before .args .c .0 in
     let h : k / 8 < 32 = omega arith in
     let g : k % 8 < 8 = omega arith in
     let e8 = shl-one 8 (k % 8) g in
@@ -48,7 +48,7 @@ returns c =
 
 returns-2 : tie.Need-returns-2
 returns-2 c =
-    let k = c .before .before .args .c in
+    let k = c .before .before .before .before .args .c .0 in
     let g : k % 8 < 8 = omega arith in
     let e8 = shl-one 8 (k % 8) g in
     simp (e8, ne-eqb _ _ (rw e8 at (c .if1 .left))) (record { top-is = refl; leaves-are = refl })

@@ -36,10 +36,10 @@ shl-result c = search needs
 
 returns-2 : tie.Need-returns-2
 returns-2 c =
-    let k = c .before .before .args .c in
+    let k = c .before .before .before .before .before .args .c .0 in
     let h : k / 8 < 32 = omega arith in
     let g : k % 8 < 8 = omega arith in
-    simp (le-ltb _ _ (c .before .if1 .left), shl-one 32 (k / 8) h, shl-one 8 (k % 8) g)
+    simp (le-ltb _ _ (c .before .before .before .if1 .left), shl-one 32 (k / 8) h, shl-one 8 (k % 8) g)
     (record { top-is = refl; leaves-are = refl })
 
 pub mark-spec : {M : Type 1} → statement M

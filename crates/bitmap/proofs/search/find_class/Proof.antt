@@ -19,11 +19,11 @@ wide-requires c κs = search needs
 lowest-bit-set-from-requires : tie.Need-lowest-bit-set-from-requires
 lowest-bit-set-from-requires c κs = search needs
 
-mul-result : tie.Need-mul-result
-mul-result c = search needs
+mul-class : tie.Need-mul-class
+mul-class c = search needs
 
-add-result : tie.Need-add-result
-add-result c = search needs
+add-class : tie.Need-add-class
+add-class c = search needs
 
 returns : tie.Need-returns
 unfolding findClass leafOrAbove
@@ -50,8 +50,8 @@ find-class-spec =
     element-copy-out-wide
     wide-requires
     lowest-bit-set-from-requires
-    mul-result
-    add-result
+    mul-class
+    add-class
     returns
     lowest-above-requires
     returns-2)

@@ -42,16 +42,16 @@ returns c =
       lt-ltb _ _ (bin .if1 .taken),
       ← (c .before .wide .ensures .0),
       eq-eqb _ _ (c .if2 .taken),
-    ) refl
+    ) tt
 
-mul-result : tie.Need-mul-result
-mul-result c = search needs
+mul-class : tie.Need-mul-class
+mul-class c = search needs
 
 lowest-bit-set-from-requires-2 : tie.Need-lowest-bit-set-from-requires-2
 lowest-bit-set-from-requires-2 c κs = search needs
 
-add-result : tie.Need-add-result
-add-result c = search needs
+add-class : tie.Need-add-class
+add-class c = search needs
 
 returns-2 : tie.Need-returns-2
 unfolding lowInBin leafLow
@@ -71,7 +71,7 @@ returns-2 c =
 
 returns-3 : tie.Need-returns-3
 unfolding lowInBin
-returns-3 c = rw (← (c .before .lowest-bit-set-from .ensures .0), le-ltb _ _ (c .if1 .left)) refl
+returns-3 c = rw (← (c .before .lowest-bit-set-from .ensures .0), le-ltb _ _ (c .if1 .left)) tt
 
 pub lowest-above-spec : {M : Type 1} → statement M
 lowest-above-spec =
@@ -83,8 +83,8 @@ lowest-above-spec =
     element-copy-out-wide
     wide-requires
     returns
-    mul-result
+    mul-class
     lowest-bit-set-from-requires-2
-    add-result
+    add-class
     returns-2
     returns-3)

@@ -48,13 +48,4 @@ returns c =
 pub mark-not-live-spec : {M : Type 1} → statement M
 mark-not-live-spec =
     tie.close
-    (tie.spec
-    Inv-loop
-    μ-loop
-    loop-holds
-    put-requires
-    add-r
-    loop-less
-    loop-again
-    same-length
-    returns)
+    (tie.spec Inv-loop μ-loop loop-holds put-requires add-r loop-less loop-again same-length returns)

@@ -1,0 +1,2 @@
+-- Sides: the plan from what lies on each side.
+pub mod Sides

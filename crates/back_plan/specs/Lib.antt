@@ -1,0 +1,2 @@
+-- A hand-back's plan as the model's.
+pub mod Plan

@@ -1,0 +1,48 @@
+-- Each question on a ledger in order: with which number it is refused, and how many figures it returns. Assumes nothing.
+use mathlib.Core.Path.{_≡_, refl, subst}
+use Prim.Native.Nat.{ℕ, _+_}
+use native.Mathlib.Omega.{arith}
+use mathlib.Core.List.{List, [], _∷_, map}
+use lib.ListN.{length, length-map}
+use Rattle.basics.proofs.Clash.{clash}
+use Rattle.ledger.specs.Ledger.{Engine, Ledger, Stacks, by-class, refused, numbersFrom, fullAt, fullOf, sizeOf}
+use Rattle.ledger.specs.Calls.{Question, SizeOf, Report, FullReport, figuresTold, Ask, told}
+use Rattle.ledger.specs.Figures.{inARow, figuresOf}
+use Rattle.ledger.specs.WellFormed.{WellFormed}
+use Rattle.ledger.specs.Claims.{CanRefuse, unknown}
+use Rattle.ledger.proofs.Numbers.{length-numbersFrom}
+use Rattle.ledger.proofs.Cases.{LiveCase, is-live, not-live, live-case}
+
+module _ (E : Engine) (size count : ℕ) where
+  pub told-refused : (q : Question) (k : ℕ) (l : Ledger (E .Index)) → WellFormed E size count l → told E size count q l ≡ refused k
+      → CanRefuse (Ask q) k
+  unfolding told
+  told-refused (SizeOf span) k l w x = go (live-case E w (span .number))
+    where
+      go : LiveCase E (span .number) l → CanRefuse (Ask (SizeOf span)) k
+      go (not-live h e q) = let number : 5 ≡ k = cc in subst (CanRefuse (Ask (SizeOf span))) number unknown
+      go (is-live n before after b e q) = clash (cc)
+  told-refused Report k l w x = clash (cc)
+  told-refused FullReport k l w x = clash (cc)
+
+in-a-row : (rows : List (ℕ × ℕ)) → length (inARow rows) ≡ length rows + length rows
+unfolding inARow
+in-a-row [] = refl
+in-a-row (x ∷ rows) = omega (arith, in-a-row rows)
+
+module _ (size count : ℕ) where
+  pub told-figures : (q : Question) (l : Ledger Stacks) → WellFormed by-class size count l
+      → length (figuresOf (Ask q) (told by-class size count q l)) ≡ figuresTold q
+  unfolding told fullOf
+  told-figures (SizeOf span) l w = go (live-case by-class w (span .number))
+    where
+      go : LiveCase by-class (span .number) l → length (figuresOf (Ask (SizeOf span)) (sizeOf (span .number) l)) ≡ 1
+      go (not-live h e q) = rw q
+      go (is-live n before after b e q) = rw q
+  told-figures Report l w = refl
+  told-figures FullReport l w = omega (
+    arith,
+    in-a-row (map (fullAt (l .index)) (numbersFrom 0 256)),
+    length-map (numbersFrom 0 256) (fullAt (l .index)),
+    length-numbersFrom 256 0,
+  )

@@ -1,0 +1,122 @@
+// The audit beside a setup of the same size: 131,072 records, half of them with a live span. Here is the program's second place where a span is
+// taken, and where one goes back.
+use answers::AuditAnswer;
+use answers::Handle;
+use bins::totals::Totals;
+use small_float::Size;
+
+const STORE: u32 = 4294967295;
+
+const RECORDS: u32 = 131072;
+
+const SPANS: u32 = 65537;
+
+const LAST: u32 = 65536;
+
+const LENGTH: u32 = 1000;
+
+// So many setups, one after the other; the scalars that the last one leaves.
+fn set_up(
+    times: u32,
+    bin_indices: &mut [u32; 256],
+    used_bins: &mut [u8; 32],
+    nodes: &mut [u32; 1048576],
+    free_nodes: &mut [u32; 131072],
+) -> Totals {
+    let mut t = Totals {
+        size: 0,
+        max_allocs: 0,
+        free_storage: 0,
+        free_offset: 0,
+        used_bins_top: 0,
+    };
+    let mut i = 0u32;
+    while i < times {
+        i += 1;
+        let started = starting::with_max_allocs(
+            Size(STORE),
+            RECORDS,
+            bin_indices,
+            used_bins,
+            nodes,
+            free_nodes,
+        );
+        t = started.totals;
+    }
+    t
+}
+
+// So many spans are taken, and the last one goes back: a fresh store gives its records in order.
+fn take_spans(
+    start: Totals,
+    bin_indices: &mut [u32; 256],
+    used_bins: &mut [u8; 32],
+    nodes: &mut [u32; 1048576],
+    free_nodes: &mut [u32; 131072],
+) -> Totals {
+    let mut t = start;
+    let mut i = 0u32;
+    while i < SPANS {
+        i += 1;
+        let taken = taking::allocate(t, Size(LENGTH), bin_indices, used_bins, nodes, free_nodes);
+        t = taken.totals;
+    }
+    let returned = giving::free(t, Handle(LAST), bin_indices, used_bins, nodes, free_nodes);
+    returned.totals
+}
+
+fn is_sound(answer: AuditAnswer) -> bool {
+    match answer {
+        AuditAnswer::Sound => true,
+        AuditAnswer::Refused(_) => false,
+    }
+}
+
+// So many audits; whether the last one said yes.
+fn audit(
+    times: u32,
+    t: Totals,
+    bin_indices: &[u32; 256],
+    used_bins: &[u8; 32],
+    nodes: &[u32; 1048576],
+    free_nodes: &[u32; 131072],
+    scratch: &mut [u32; 131072],
+) -> bool {
+    let mut sound = false;
+    let mut i = 0u32;
+    while i < times {
+        i += 1;
+        sound = is_sound(auditing::audit(t, bin_indices, used_bins, nodes, free_nodes, scratch));
+    }
+    sound
+}
+
+fn set_up_and_audit(
+    setups: u32,
+    audits: u32,
+    nodes: &mut [u32; 1048576],
+    free_nodes: &mut [u32; 131072],
+    scratch: &mut [u32; 131072],
+) -> bool {
+    let mut bin_indices = [0u32; 256];
+    let mut used_bins = [0u8; 32];
+    let t = set_up(setups, &mut bin_indices, &mut used_bins, nodes, free_nodes);
+    let u = take_spans(t, &mut bin_indices, &mut used_bins, nodes, free_nodes);
+    audit(
+        audits,
+        u,
+        &bin_indices,
+        &used_bins,
+        nodes,
+        free_nodes,
+        scratch,
+    )
+}
+
+// So many setups, then so many audits; whether the last one said yes.
+pub fn drive(setups: u32, audits: u32) -> bool {
+    let mut nodes = [0u32; 1048576];
+    let mut free_nodes = [0u32; 131072];
+    let mut scratch = [0u32; 131072];
+    set_up_and_audit(setups, audits, &mut nodes, &mut free_nodes, &mut scratch)
+}

@@ -1,0 +1,2 @@
+-- A take's plan as the model's.
+pub mod Plan
