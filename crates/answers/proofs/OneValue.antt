@@ -25,7 +25,8 @@ use Rattle.answers.specs.declared.FullAnswer.{FullAnswer}
 use Rattle.answers.specs.declared.AuditAnswer.{AuditAnswer}
 use Rattle.answers.specs.declared.AuditAnswer.the-variants as audit
 use Rattle.answers.specs.Refusals.{numberOf}
-use Rattle.answers.specs.Answers.{startSays, takeSays, backSays, sizeSays, reportSays, columns, outcomeSays, fullSays, AllPlaces, ZeroIfRefused, FiguresOfZero, auditSays}
+use Rattle.answers.specs.Answers.{startSays, takeSays, backSays, sizeSays, reportSays, auditSays}
+use Rattle.answers.specs.Answers.{columns, outcomeSays, fullSays, AllPlaces, ZeroIfRefused, FiguresOfZero}
 use Rattle.answers.specs.OneValue.{OneValue}
 use Rattle.answers.proofs.Numbers.{number-means}
 
@@ -76,7 +77,8 @@ of-audit (audit.Refused why) audit.Sound e = clash (cc)
 of-audit (audit.Refused why) (audit.Refused other) e = ap audit.Refused (same-refusal why other e)
 
 -- ---- the full report: columns that say the same, of 256 places each, are the same
-rows-same : (f g : ℕ → ℕ × ℕ) (n r : ℕ) → map f (numbersFrom r n) ≡ map g (numbersFrom r n) → (c : ℕ) → r ≤ c → c < r + n → f c ≡ g c
+rows-same : (f g : ℕ → ℕ × ℕ) (n r : ℕ) → map f (numbersFrom r n) ≡ map g (numbersFrom r n)
+    → (c : ℕ) → r ≤ c → c < r + n → f c ≡ g c
 unfolding numbersFrom
 rows-same f g zero r e c low high = absurd (omega arith)
 rows-same f g (suc n) r e c low high = go (same? c r) (rows-same f g n (suc r) (cc) c)

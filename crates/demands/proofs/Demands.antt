@@ -38,7 +38,8 @@ use Rattle.demands.proofs.Twins.{twins, run-lengths}
 
 module _ (E : Edition) where
   -- ---- a run without a setup, from words that stand for a ledger: its log is the ledger's, and its end stands for the ledger's end
-  run-sound : {size count : ℕ} → 2 ≤ count → size < 2 ^ 32 → (l : Ledger Stacks) → WellFormed by-class size count l → {w u : Words} {ds : List Done}
+  run-sound : {size count : ℕ} → 2 ≤ count → size < 2 ^ 32 → (l : Ledger Stacks) → WellFormed by-class size count l
+      → {w u : Words} {ds : List Done}
       → Sound E w l → Run E w ds u → NoSetup ds
       → (logOf ds ≡ log (answer by-class size count) (callsOf ds) l) × Sound E u (end (answer by-class size count) (callsOf ds) l)
   unfolding logOf callsOf log end
@@ -81,7 +82,8 @@ module _ (E : Edition) where
     counted : now .count ≡ count
     counted = sym (all-records (as-the-ledger .1 .well .lined)) ∙ all-records (well .lined)
 
-    audit-says-yes : {n : ℕ} {after : Words} {a : Answer} {later : List Done} → Run E now (did (Auditing n) a ∷ later) after → count ≤ n → a ≡ done
+    audit-says-yes : {n : ℕ} {after : Words} {a : Answer} {later : List Done} → Run E now (did (Auditing n) a ∷ later) after
+        → count ≤ n → a ≡ done
     audit-says-yes (then (audited {scratch = scratch} e p) rest) long =
         ap (λ (x : Answer × List ℕ). x .0)
         (p .exact ∙ auditing.claims E .sound-yes now (ledgerAfter size count l ds) scratch (as-the-ledger .1) (omega (arith, counted, e, long)))

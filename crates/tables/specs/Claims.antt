@@ -118,7 +118,8 @@ pub record Claims (E : Edition) : Type 0 where
       × Sound E (answerWords E c w .1) (answer by-class (w .size) (w .count) c l .1)
   pub never-6 : (w : Words) (l : Ledger Stacks) → Sound E w l → (c : Call) → ¬ (answerWords E c w .0 ≡ refused 6)
   pub one-ledger : (w : Words) (l m : Ledger Stacks) → Sound E w l → Sound E w m → l ≡ m
-  pub alike : (w v : Words) (l : Ledger Stacks) → Sound E w l → Sound E v l → (cs : List Call) → answers (answerWords E) cs w ≡ answers (answerWords E) cs v
+  pub alike : (w v : Words) (l : Ledger Stacks) → Sound E w l → Sound E v l → (cs : List Call)
+      → answers (answerWords E) cs w ≡ answers (answerWords E) cs v
   -- ---- any words at all: "A refusal changes no word .. Even from spoiled tables no span outside the store is granted."
   pub refused-kept : (c : Call) (w : Words) (k : ℕ) → answerWords E c w .0 ≡ refused k → answerWords E c w .1 ≡ w
   pub grant-inside : (w : Words) (asked : Request) (o r : ℕ) → answerWords E (Take asked) w .0 ≡ granted o r → o + asked .size ≤ w .size

@@ -1,5 +1,5 @@
--- Setup on words, and what a reset leaves. Accepted, they write the head, word 6 of each record below the count, the seven words of record 0, and the pile up to
--- the count; every other word stays as it came. Refused, they write nothing. Assumes nothing.
+-- Setup on words, and what a reset leaves. Accepted, they write the head, word 6 of each record below the count, the seven words of record 0,
+-- and the pile up to the count; every other word stays as it came. Refused, they write nothing. Assumes nothing.
 use mathlib.Core.List.{List}
 use Prim.Native.Nat.{ℕ, zero, suc, _-_}
 use lib.ListN.{length, set, replicate}
