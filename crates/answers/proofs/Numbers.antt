@@ -1,7 +1,7 @@
 -- A refusal is known by its number. Assumes nothing.
 use mathlib.Core.Path.{_≡_, refl, sym, ap, _∙_}
 use mathlib.Core.Bool.{cond}
-use Prim.Native.Nat.{ℕ, suc, _-_, _≤_}
+use Prim.Native.Nat.{ℕ, _≤_}
 use native.Mathlib.Omega.{arith}
 use lib.Dec.{eqb}
 use Rattle.answers.specs.declared.Refusal.{Refusal}
@@ -31,12 +31,8 @@ in-range NoRegion = (omega arith, omega arith)
 in-range NotLive = (omega arith, omega arith)
 in-range Unsound = (omega arith, omega arith)
 
--- so a refusal's number is one more than some number
-pub above-0 : (why : Refusal) → (k : ℕ) × (numberOf why ≡ suc k)
-above-0 why = (numberOf why - 1, omega (arith, in-range why .0))
-
 pub number-means : NumberMeans
 number-means = record {
   none-shared = λ why other e. sym (back why) ∙ (ap numbered e ∙ back other);
-  from-1-to-6 = in-range;
+  in-range = in-range;
 }

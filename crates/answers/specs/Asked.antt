@@ -1,10 +1,11 @@
 -- What a caller's arguments ask for, in the ledger's terms. Assumes nothing.
 use Rattle.ledger.specs.Calls.{Request, Token}
 use Rattle.small_float.specs.declared.Size.{Size}
-use Rattle.answers.specs.declared.Handle.{Handle}
+use Rattle.answers.specs.declared.Allocation.{Allocation}
 
 abbrev pub requestOf : Size → Request
 requestOf size = record { size = size .0 }
 
-abbrev pub tokenOf : Handle → Token
-tokenOf handle = record { number = handle .0 }
+-- a span is named by its record; where it starts is not looked at, as in the Rust
+abbrev pub tokenOf : Allocation → Token
+tokenOf span = record { number = span .metadata .0 }

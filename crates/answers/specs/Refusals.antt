@@ -16,4 +16,4 @@ numberOf Unsound = 6
 pub record NumberMeans : Type 0 where
   pub none-shared : (why other : Refusal) → numberOf why ≡ numberOf other → why ≡ other
   -- none is 0, by which the gate tells that it is open
-  pub from-1-to-6 : (why : Refusal) → (1 ≤ numberOf why) × (numberOf why ≤ 6)
+  pub in-range : (why : Refusal) → (1 ≤ numberOf why) × (numberOf why ≤ 6)

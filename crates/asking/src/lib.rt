@@ -3,38 +3,38 @@
 // Each is lent all that the other calls are lent, to be read.
 ghost use Rattle.ledger.specs.Calls.{SizeOf, Report, FullReport};
 ghost use Rattle.answers.specs.Asked.{tokenOf};
-ghost use Rattle.bins.specs.InWords.{wordsOf};
+ghost use Rattle.records.specs.InWords.{wordsOf};
 ghost use Rattle.answers.specs.Answers.{sizeSays, reportSays, fullSays, FiguresOfZero, AllPlaces};
 ghost use Rattle.asking.specs.Answers.{Asked};
+use answers::Allocation;
 use answers::FullAnswer;
-use answers::Handle;
 use answers::Refusal;
 use answers::ReportAnswer;
 use answers::SizeAnswer;
-use bins::gate::Gate;
-use bins::nodes;
-use bins::totals::Totals;
+use records::gate::Gate;
+use records::nodes;
+use records::totals::Totals;
 use small_float::Size;
 
-mod full;
 mod report;
 
 // The length of a live span.
 pub fn allocation_size(
     t: Totals,
-    handle: Handle,
+    span: Allocation,
     bin_indices: &[u32; 256],
     used_bins: &[u8; 32],
     nodes: &[u32],
     free_nodes: &[u32],
 ) -> SizeAnswer
-    ensures { λ a. ⌜ Asked (sizeSays a) (SizeOf (tokenOf handle))
+    ensures { λ a. ⌜ Asked (sizeSays a) (SizeOf (tokenOf span))
         (wordsOf t (now («bin_indices» .entry)) (now («used_bins» .entry)) (now (nodes .entry)) (now («free_nodes» .entry))) ⌝ }
 {
-    match bins::gate::test(t.max_allocs, nodes, free_nodes, Refusal::Unsound) {
+    let handle = span.metadata;
+    match records::gate::test(t.max_allocs, nodes, free_nodes, Refusal::Unsound) {
         Gate::Shut(why) => SizeAnswer::Refused(why),
         Gate::Open => {
-            if bins::live::is_live(nodes, t.max_allocs, handle) {
+            if records::live::is_live(nodes, t.max_allocs, handle) {
                 return SizeAnswer::Length(Size(nodes::word(nodes, handle, nodes::DATA_SIZE)));
             }
             SizeAnswer::Refused(Refusal::NotLive)
@@ -53,7 +53,7 @@ pub fn storage_report(
     ensures { λ a. ⌜ Asked (reportSays a) Report
         (wordsOf t (now («bin_indices» .entry)) (now («used_bins» .entry)) (now (nodes .entry)) (now («free_nodes» .entry))) ⌝ }
 {
-    match bins::gate::test(t.max_allocs, nodes, free_nodes, Refusal::Unsound) {
+    match records::gate::test(t.max_allocs, nodes, free_nodes, Refusal::Unsound) {
         Gate::Shut(why) => ReportAnswer::Refused(why),
         Gate::Open => report::report(t, used_bins),
     }
@@ -72,8 +72,8 @@ pub fn storage_report_full(
     ensures figures { λ a. ⌜ FiguresOfZero a ⌝ }
     ensures places { λ a. ⌜ AllPlaces a ⌝ }
 {
-    match bins::gate::test(t.max_allocs, nodes, free_nodes, Refusal::Unsound) {
-        Gate::Shut(why) => full::refuse(why),
-        Gate::Open => full::count(t, bin_indices, nodes),
+    match records::gate::test(t.max_allocs, nodes, free_nodes, Refusal::Unsound) {
+        Gate::Shut(why) => full_report::refuse(why),
+        Gate::Open => full_report::count(t, bin_indices, nodes),
     }
 }

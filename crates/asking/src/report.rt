@@ -4,13 +4,13 @@ ghost use Prim.Native.Nat.{_<_};
 ghost use mathlib.Core.List.{[]};
 ghost use Rattle.ledger.specs.Ledger.{reported};
 ghost use Rattle.tables.specs.Questions.{reportClass, reportLeaf, reportTop, reportOf};
-ghost use Rattle.bins.specs.InWords.{wordsOf};
+ghost use Rattle.records.specs.InWords.{wordsOf};
 ghost use Rattle.answers.specs.Answers.{reportSays};
 use answers::Refusal;
 use answers::ReportAnswer;
 use answers::StorageReport;
-use bins::totals::Totals;
 use bitmap::search;
+use records::totals::Totals;
 use small_float::Class;
 use small_float::Size;
 
@@ -45,7 +45,7 @@ fn report_leaf(t: Totals, top: u32, m: u32) -> ReportAnswer
     report_class(t, Class(class))
 }
 
-fn report_top(t: Totals, used_bins: &[u8; 32], top: u32) -> ReportAnswer
+fn report_top(t: Totals, top: u32, used_bins: &[u8; 32]) -> ReportAnswer
     requires { ⌜ top < 32 ⌝ }
     ensures { λ a. ⌜ reportSays a ≡ reportTop (wordsOf t [] (now («used_bins» .entry)) [] []) top ⌝ }
 {
@@ -64,5 +64,5 @@ pub fn report(t: Totals, used_bins: &[u8; 32]) -> ReportAnswer
     if top == 0 {
         return figures(t.free_storage, Size(0));
     }
-    report_top(t, used_bins, search::highest_bit_set(top))
+    report_top(t, search::highest_bit_set(top), used_bins)
 }

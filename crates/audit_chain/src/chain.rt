@@ -4,12 +4,12 @@ ghost use Prim.Native.Nat.{_+_, _<_, _≤_, _^_};
 ghost use lib.ListN.{length};
 ghost use Rattle.tables.specs.Layout.{dataSize, word as word-of};
 ghost use Rattle.tables.specs.Calls.{edition32};
-ghost use Rattle.bins.specs.InWords.{HasRoom, InTable};
+ghost use Rattle.records.specs.InWords.{HasRoom, InTable};
 ghost use Rattle.audit_words.specs.Chain.{startsChain, firstRecord, goodUsed, goodRegion, advanced, walkFrom, started, walkEnds};
 use answers::Handle;
 use audit_words::Walk;
-use bins::nodes;
-use bins::totals::Totals;
+use records::nodes;
+use records::totals::Totals;
 
 // A record that is not spare and has nothing before it.
 fn starts_chain(nodes: &[u32], scratch: &[u32], r: Handle) -> bool

@@ -2,10 +2,10 @@
 ghost use mathlib.Core.Path.{_≡_};
 ghost use Prim.Native.Nat.{_≤_};
 ghost use lib.ListN.{length};
-ghost use Rattle.bins.specs.InWords.{HasRoom};
+ghost use Rattle.records.specs.InWords.{HasRoom};
 ghost use Rattle.audit_words.specs.Spares.{goodSpare, markFrom};
 use answers::Handle;
-use bins::nodes;
+use records::nodes;
 
 fn good_spare(nodes: &[u32], scratch: &[u32], max_allocs: u32, r: Handle) -> bool
     requires { ⌜ HasRoom «max_allocs» (now nodes) ⌝ }
@@ -37,7 +37,7 @@ pub fn mark_spares(
 {
     let mut i: u32 = 0;
     while i < spares {
-        let r = bins::pile::spare(free_nodes, i);
+        let r = records::pile::spare(free_nodes, i);
         if !good_spare(nodes, scratch, max_allocs, r) {
             return false;
         }

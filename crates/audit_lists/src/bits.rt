@@ -4,7 +4,7 @@ ghost use Prim.Native.Nat.{_+_, _*_, _<_, _≤_};
 ghost use Rattle.tables.specs.Linked.{nonZero};
 ghost use Rattle.tables.specs.Calls.{edition32};
 ghost use Rattle.audit_words.specs.Bits.{headBit, leafOf, topOf, leavesFrom, bitsAgree};
-use bins::nodes;
+use records::nodes;
 
 // 1 where a list holds something.
 fn head_bit(head: u32) -> u32

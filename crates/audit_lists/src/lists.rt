@@ -3,11 +3,11 @@ ghost use mathlib.Core.Path.{_≡_};
 ghost use Prim.Native.Nat.{_+_, _-_, _<_, _≤_};
 ghost use lib.ListN.{length};
 ghost use Rattle.tables.specs.Calls.{edition32};
-ghost use Rattle.bins.specs.InWords.{HasRoom, InTable};
+ghost use Rattle.records.specs.InWords.{HasRoom, InTable};
 ghost use Rattle.audit_words.specs.Lists.{goodMember, nextMember, listFrom, listsFrom};
 use answers::Handle;
 use audit_words::Along;
-use bins::nodes;
+use records::nodes;
 use small_float::Class;
 use small_float::Size;
 

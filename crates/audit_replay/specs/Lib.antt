@@ -1,2 +1,2 @@
--- Audited: what a row that audits is held against, and where a word is put.
-pub mod Audited
+-- Placed: where a word is put.
+pub mod Placed

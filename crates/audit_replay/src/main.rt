@@ -1,7 +1,6 @@
 // Reads the oracle's list of spoiled tables from standard input and says how many of its rows agree with the audit.
-mod judging;
 mod parts;
-mod state;
+mod rows;
 
 use libc::STDOUT_FILENO;
 
@@ -13,7 +12,7 @@ fn line(text: &[u8], n: u64) {
 }
 
 fn main() {
-    let replay = judging::replay_input();
+    let replay = rows::replay_input();
     let tally = replay.tally;
     line(b"rows ", tally.rows);
     line(b"agreed ", tally.agreed);

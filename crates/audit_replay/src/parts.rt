@@ -3,10 +3,10 @@ ghost use mathlib.Core.Bool.{cond};
 ghost use mathlib.Core.Path.{_≡_};
 ghost use lib.Dec.{ltb, leb};
 ghost use lib.ListN.{length, set};
-ghost use Rattle.audit_replay.specs.Audited.{auditNumber, OnlyIf, placedIf, totalPut, statePut};
-use crate::state;
-use crate::state::State;
-use bins::totals::Totals;
+ghost use Rattle.audit_verdicts.specs.Audited.{auditNumber, OnlyIf};
+ghost use Rattle.audit_replay.specs.Placed.{placedIf, totalPut, statePut};
+use audit_verdicts::State;
+use records::totals::Totals;
 use replay::tally::Verdict;
 
 // A word that has no place differs from every list.
@@ -24,22 +24,10 @@ fn with_total(t: Totals, i: u32, v: u32) -> Totals
     ensures { λ r. ⌜ r ≡ totalPut t i v ⌝ }
 {
     if i == 0 {
-        return Totals {
-            size: v,
-            max_allocs: t.max_allocs,
-            free_storage: t.free_storage,
-            free_offset: t.free_offset,
-            used_bins_top: t.used_bins_top,
-        };
+        return t.with_size(v);
     }
     if i == 1 {
-        return Totals {
-            size: t.size,
-            max_allocs: v,
-            free_storage: t.free_storage,
-            free_offset: t.free_offset,
-            used_bins_top: t.used_bins_top,
-        };
+        return t.with_max_allocs(v);
     }
     if i == 2 {
         return t.with_free_storage(v);
@@ -137,7 +125,7 @@ pub fn spoil_total(
         return Verdict::Differs;
     }
     let spoiled = put_total(state, i, v);
-    state::judge(spoiled, expected, heads, leaves, nodes, pile)
+    audit_verdicts::judge(spoiled, expected, heads, leaves, nodes, pile)
 }
 
 pub fn spoil_head(
@@ -160,7 +148,7 @@ pub fn spoil_head(
     }
     let old = heads[at];
     heads[at] = v;
-    let verdict = state::judge(state, expected, heads, leaves, nodes, pile);
+    let verdict = audit_verdicts::judge(state, expected, heads, leaves, nodes, pile);
     heads[at] = old;
     verdict
 }
@@ -188,7 +176,7 @@ pub fn spoil_leaf(
     }
     let old = leaves[at];
     leaves[at] = v as u8;
-    let verdict = state::judge(state, expected, heads, leaves, nodes, pile);
+    let verdict = audit_verdicts::judge(state, expected, heads, leaves, nodes, pile);
     leaves[at] = old;
     verdict
 }
@@ -213,7 +201,7 @@ pub fn spoil_node(
     }
     let old = nodes[at];
     nodes[at] = v;
-    let verdict = state::judge(state, expected, heads, leaves, nodes, pile);
+    let verdict = audit_verdicts::judge(state, expected, heads, leaves, nodes, pile);
     nodes[at] = old;
     verdict
 }
@@ -238,7 +226,7 @@ pub fn spoil_spare(
     }
     let old = pile[at];
     pile[at] = v;
-    let verdict = state::judge(state, expected, heads, leaves, nodes, pile);
+    let verdict = audit_verdicts::judge(state, expected, heads, leaves, nodes, pile);
     pile[at] = old;
     verdict
 }

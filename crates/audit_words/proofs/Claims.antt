@@ -27,7 +27,7 @@ use Rattle.tables.proofs.SoundOf.{room-of}
 use Rattle.tables.proofs.SetupSound.{setup-sound}
 use Rattle.tables.proofs.Refusals.{setup-done}
 use Rattle.tables.proofs.Kept.{question-kept}
-use Rattle.tables.proofs.Runs.{call-sound}
+use Rattle.tables.proofs.OverRuns.{call-sound}
 use Rattle.audit_words.specs.Scratch.{cleared}
 use Rattle.audit_words.specs.Audit.{wordsAreSound, verdict, behindGate, auditWords}
 use Rattle.tables.specs.Room.{OfHead}

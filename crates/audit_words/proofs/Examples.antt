@@ -7,7 +7,7 @@ use lib.ListN.{replicate}
 use Rattle.ledger.specs.Ledger.{Answer, done, granted, refused}
 use Rattle.ledger.specs.Calls.{takes, hands-back, end}
 use Rattle.tables.specs.Layout.{neighborNext, used, put, putLink, word}
-use Rattle.tables.specs.Words.{Words, withNodes, withTotal}
+use Rattle.tables.specs.Words.{Words, withNodes, withTotal, withLists, wordsFrom}
 use Rattle.tables.specs.Steps.{insert, insertAt, insertNodes, joinNodes, unlink, unlinkAt, popPile, pushPile}
 use Rattle.tables.specs.Setup.{tablesAlone, setupWords}
 use Rattle.tables.specs.Calls.{edition32, answerWords}
@@ -22,7 +22,7 @@ fresh = setupWords edition32 100 5 (tablesAlone (replicate 40 7) (replicate 5 9)
 -- a free region of 20 units, a live one of 30, and a free one of 50
 cut-up : Words
 unfolding fresh end answerWords insert insertAt insertNodes joinNodes unlink unlinkAt popPile pushPile put putLink word
-cut-up = end (answerWords edition32) (takes 20 ∷ takes 30 ∷ hands-back 0 ∷ []) fresh
+cut-up = end (answerWords edition32) (takes 20 ∷ takes 30 ∷ hands-back 0 0 ∷ []) fresh
 
 -- the audit with a scratch of one word too many, in which anything stands
 audited : Words → Answer × List ℕ
@@ -63,24 +63,17 @@ circular-chain = refl
 
 -- ---- where the audit asks more than a call: one live region of 5 units under record 1, record 0 spare, and `link` for the record before it
 one-live : ℕ → Words
-one-live link = record {
-  size = 5;
-  count = 2;
-  freeStorage = 0;
-  freeOffset = 0;
-  usedBinsTop = 0;
-  usedBins = replicate 32 0;
-  binIndices = replicate 256 (edition32 .none);
-  nodes = replicate 8 0 ++ (0 ∷ 5 ∷ edition32 .none ∷ edition32 .none ∷ link ∷ edition32 .none ∷ 1 ∷ 0 ∷ []);
-  pile = replicate 2 0;
-}
+one-live link =
+    wordsFrom 5 2 0 0 0 (replicate 32 0) (replicate 256 (edition32 .none))
+    (replicate 8 0 ++ (0 ∷ 5 ∷ edition32 .none ∷ edition32 .none ∷ link ∷ edition32 .none ∷ 1 ∷ 0 ∷ []))
+    (replicate 2 0)
 
 marked-absent : audited (one-live (edition32 .none)) .0 ≡ done
 unfolding audited one-live word
 marked-absent = refl
 
 -- a call reads the link 2 as absent, and hands the region back; to the audit it is no absent link
-link-handed-back : answerWords edition32 (hands-back 1) (one-live 2) .0 ≡ done
+link-handed-back : answerWords edition32 (hands-back 0 1) (one-live 2) .0 ≡ done
 unfolding one-live answerWords word
 link-handed-back = refl
 
@@ -91,17 +84,7 @@ link-beyond-the-count = refl
 -- the fresh store with its leaf byte and no top bit over it: a take of that class is granted, and the audit says no
 no-top-bit : Words
 unfolding fresh
-no-top-bit = record {
-  size = fresh .size;
-  count = fresh .count;
-  freeStorage = fresh .freeStorage;
-  freeOffset = fresh .freeOffset;
-  usedBinsTop = 0;
-  usedBins = fresh .usedBins;
-  binIndices = fresh .binIndices;
-  nodes = fresh .nodes;
-  pile = fresh .pile;
-}
+no-top-bit = withLists fresh 0 (fresh .usedBins) (fresh .binIndices) (fresh .nodes)
 
 granted-without-top-bit : answerWords edition32 (takes 96) no-top-bit .0 ≡ granted 0 0
 unfolding no-top-bit answerWords word up lib.Count.trailingZeros

@@ -3,7 +3,7 @@
 -- Marks: the pile and its marks. FirstRecord, ChainMet: where the chain begins, and the walk along it. ListsMet: the class lists.
 -- BitsMet: the bits. FreeRegions: the lists together are the free regions. YesSound: yes, so sound. SoundYes: sound, so yes.
 -- Cleared: the scratch. Unread: what is not read. Claims: all that is claimed. Promise: what the audit promises.
--- Turns: one turn of each loop of the code.
+-- For the audit in code, of any edition: Turns, one turn of each loop; Verdicts, its parts joined.
 -- Examples: the audit computed.
 pub mod Tests
 pub mod NoRepeats
@@ -20,4 +20,5 @@ pub mod SoundYes
 pub mod Claims
 pub mod Promise
 pub mod Turns
+pub mod Verdicts
 pub mod Examples

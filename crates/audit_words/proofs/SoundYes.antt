@@ -1,6 +1,5 @@
 -- Sound, so yes: the walks meet the ledger that stands in the words, part by part. Assumes nothing.
 use mathlib.Core.Path.{_≡_, refl, ap, sym, _∙_, subst}
-use mathlib.Core.Logic.{_≢_}
 use mathlib.Core.Bool.{true}
 use mathlib.Core.List.{List, [], _∷_}
 use Prim.Native.Nat.{ℕ, _+_, _≤_, _<_}
@@ -24,7 +23,7 @@ use Rattle.tables.specs.Linked.{first, recs, stackOf}
 use Rattle.tables.specs.Sound.{Sound}
 use Rattle.tables.proofs.Lines.{recs-count, reads-at, Chain}
 use Rattle.tables.proofs.Shelf.{in-below, in-some}
-use Rattle.tables.proofs.SoundOf.{count-none, shelf-of}
+use Rattle.tables.proofs.SoundOf.{count-none, line-low, line-some, shelf-of}
 use Rattle.tables.proofs.OneLedger.{first-one}
 use Rattle.audit_words.specs.Chain.{startsChain, firstRecord, started, walkEnds}
 use Rattle.audit_words.specs.Audit.{chainWalk, endIsSound, recordsAreSound, pileIsSound, wordsAreSound}
@@ -55,12 +54,6 @@ module _ (E : Edition) (w : Words) (l : Ledger Stacks) (S : Sound E w l) where
   room = omega (arith, S .spare .spares, all-records (S .well .lined), S .well .lined .some-region)
 
   -- ---- the records of the line
-  line-low : (q : ℕ) → In q (recs (l .line)) → q < w .count
-  line-low q m = one-below q (w .count) (omega (arith, S .well .lined .once q, recs-count q (l .line)))
-
-  line-some : (q : ℕ) → In q (recs (l .line)) → q ≢ E .none
-  line-some q m = omega (arith, line-low q m, small)
-
   start : ℕ
   start = first (recs (l .line)) (E .none)
 
@@ -90,7 +83,7 @@ module _ (E : Edition) (w : Words) (l : Ledger Stacks) (S : Sound E w l) where
 
     unmarked : (q : ℕ) → In q (recs (l .line)) → getD marks q 0 ≡ 0
     unmarked q m =
-        let low = line-low q m in
+        let low = line-low E w l S q m in
         omega (arith, spare-count q low, S .well .lined .once q, recs-count q (l .line), one-most (ltb q (w .count)))
 
     -- only the first of the line starts the chain
@@ -111,11 +104,11 @@ module _ (E : Edition) (w : Words) (l : Ledger Stacks) (S : Sound E w l) where
           ap one (lt-ltb r (w .count) low),
         ) in
         sym (first-one (word (w .nodes) neighborNext) (word (w .nodes) neighborPrev) (E .none) (E .none) (recs (l .line)) r
-        line-some (S .line .chain) in-line (eqb-true _ _ (t .1)))
+        (line-some E w l S) (S .line .chain) in-line (eqb-true _ _ (t .1)))
 
     found-start : firstRecord E (w .count) (w .nodes) marks 0 ≡ start
     found-start = first-found E (w .nodes) marks start starts (w .count) 0 (omega arith)
-        (omega (arith, line-low start (begins .in-line))) (λ r a b e. starts-only r (omega arith) e)
+        (omega (arith, line-low E w l S start (begins .in-line))) (λ r a b e. starts-only r (omega arith) e)
 
     -- ---- the chain
     line-stands : Stands E (w .nodes) marks (w .count) (w .size) small (started E start) (l .line)
@@ -124,7 +117,7 @@ module _ (E : Edition) (w : Words) (l : Ledger Stacks) (S : Sound E w l) where
       reads = S .line .reads;
       chain = S .line .chain;
       start = refl;
-      low = line-low;
+      low = line-low E w l S;
       unmarked = unmarked;
       apart = S .well .lined .apart;
       after = λ z. absurd (omega arith);

@@ -5,7 +5,7 @@ ghost use mathlib.Core.List.{List};
 ghost use lib.ListN.{length};
 ghost use Rattle.tables.specs.Calls.{edition32};
 ghost use Rattle.tables.specs.Room.{Room, OfHead};
-ghost use Rattle.bins.specs.InWords.{wordsOf, HasRoom};
+ghost use Rattle.records.specs.InWords.{wordsOf, HasRoom};
 ghost use Rattle.audit_words.specs.Scratch.{cleared};
 ghost use Rattle.audit_words.specs.Audit.{recordsAreSound, wordsAreSound, behindGate};
 ghost use Rattle.audit_words.specs.Promise.{AuditPromise};
@@ -17,8 +17,8 @@ use audit_chain::scratch;
 use audit_chain::spares;
 use audit_lists::bits;
 use audit_lists::lists;
-use bins::gate::Gate;
-use bins::totals::Totals;
+use records::gate::Gate;
+use records::totals::Totals;
 
 // Chain, lists and bits, once the spare records are marked.
 fn records_are_sound(
@@ -131,7 +131,7 @@ pub fn audit(
         (now (scratch .entry)) (now (scratch .exit)) (auditSays a) ⌝ }
 {
     of_head(t, bin_indices, used_bins);
-    match bins::gate::test(t.max_allocs, nodes, free_nodes, Refusal::Unsound) {
+    match records::gate::test(t.max_allocs, nodes, free_nodes, Refusal::Unsound) {
         Gate::Shut(why) => AuditAnswer::Refused(why),
         Gate::Open => behind_gate(t, bin_indices, used_bins, nodes, free_nodes, scratch),
     }

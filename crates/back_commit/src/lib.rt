@@ -8,20 +8,20 @@ ghost use lib.ListN.{length};
 ghost use Rattle.basics.specs.Sum.{one};
 ghost use Rattle.tables.specs.HandBack.{dropIf, merging};
 ghost use Rattle.tables.specs.Guards.{MergeGuards};
-ghost use Rattle.bins.specs.InWords.{wordsOf, bound, HasRoom};
+ghost use Rattle.records.specs.InWords.{wordsOf, bound, HasRoom};
 ghost use Rattle.back_plan.specs.Plan.{mergedIn};
 use back_plan::Merged;
 use back_plan::Neighbor;
-use bins::totals::Totals;
+use records::totals::Totals;
 
 // A free neighbour leaves its class, and its record goes onto the pile.
 fn drop_if(
+    t: Totals,
+    beside: Neighbor,
     bin_indices: &mut [u32; 256],
     used_bins: &mut [u8; 32],
     nodes: &mut [u32],
     free_nodes: &mut [u32],
-    t: Totals,
-    beside: Neighbor,
 ) -> Totals
     requires { ⌜ HasRoom (t .«max_allocs») (now nodes) ⌝ }
     requires { ⌜ t .«max_allocs» ≤ length (now «free_nodes») ⌝ }
@@ -34,20 +34,20 @@ fn drop_if(
     if beside.free {
         let node = beside.link;
         let u = bins::remove::remove_node_from_bin(bin_indices, used_bins, nodes, t, node);
-        return bins::pile::push(free_nodes, u, node);
+        return records::pile::push(free_nodes, u, node);
     }
     t
 }
 
 // Both neighbours where they are free, the one before first.
 fn drop_both(
+    t: Totals,
+    prev: Neighbor,
+    next: Neighbor,
     bin_indices: &mut [u32; 256],
     used_bins: &mut [u8; 32],
     nodes: &mut [u32],
     free_nodes: &mut [u32],
-    t: Totals,
-    prev: Neighbor,
-    next: Neighbor,
 ) -> Totals
     requires { ⌜ HasRoom (t .«max_allocs») (now nodes) ⌝ }
     requires { ⌜ t .«max_allocs» ≤ length (now «free_nodes») ⌝ }
@@ -59,20 +59,20 @@ fn drop_both(
         (dropIf (bound (t .«max_allocs»)) (prev .free) (prev .link .0)
         (wordsOf t (now («bin_indices» .entry)) (now («used_bins» .entry)) (now (nodes .entry)) (now («free_nodes» .entry)))) ⌝ }
 {
-    let u = drop_if(bin_indices, used_bins, nodes, free_nodes, t, prev);
-    drop_if(bin_indices, used_bins, nodes, free_nodes, u, next)
+    let u = drop_if(t, prev, bin_indices, used_bins, nodes, free_nodes);
+    drop_if(u, next, bin_indices, used_bins, nodes, free_nodes)
 }
 
 // The merged region is put in under its record; the free total is set once.
 pub fn merge(
-    bin_indices: &mut [u32; 256],
-    used_bins: &mut [u8; 32],
-    nodes: &mut [u32],
-    free_nodes: &mut [u32],
     t: Totals,
     prev: Neighbor,
     next: Neighbor,
     m: Merged,
+    bin_indices: &mut [u32; 256],
+    used_bins: &mut [u8; 32],
+    nodes: &mut [u32],
+    free_nodes: &mut [u32],
 ) -> Totals
     requires { ⌜ HasRoom (t .«max_allocs») (now nodes) ⌝ }
     requires { ⌜ t .«max_allocs» ≤ length (now «free_nodes») ⌝ }
@@ -82,7 +82,7 @@ pub fn merge(
         (wordsOf t (now («bin_indices» .entry)) (now («used_bins» .entry)) (now (nodes .entry)) (now («free_nodes» .entry)))
         (m .record .0) (prev .link .0) (next .link .0) (prev .free) (next .free) (mergedIn m) ⌝ }
 {
-    let u = drop_both(bin_indices, used_bins, nodes, free_nodes, t, prev, next);
+    let u = drop_both(t, prev, next, bin_indices, used_bins, nodes, free_nodes);
     let length = m.length;
     let record = m.record;
     let before = m.before;

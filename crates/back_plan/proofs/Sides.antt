@@ -12,7 +12,8 @@ pub sides-planned : (w : Words) (r : ℕ) {p x offset own : ℕ} {before after :
     → p ≡ word (w .nodes) neighborPrev r → x ≡ word (w .nodes) neighborNext r
     → offset ≡ word (w .nodes) dataOffset r → own ≡ word (w .nodes) dataSize r
     → Beside (w .nodes) (w .count) p neighborPrev offset before → Beside (w .nodes) (w .count) x neighborNext offset after
-    → planMerged w (before .link .0) (after .link .0) (before .free) (after .free) (joined (w .freeStorage) own before after) ≡ planBack w r
+    → planMerged w (before .link .0) (after .link .0) (before .free) (after .free) (joined (w .freeStorage) own before after)
+    ≡ planBack w record { number = r }
 unfolding planBack planNeighbours planSides mergedOf
 sides-planned w r live ep ex eo el b a =
     rw (

@@ -6,12 +6,14 @@ ghost use Prim.Native.Nat.{ℕ, _≤_, _<_};
 ghost use mathlib.Core.List.{List, []};
 ghost use Rattle.basics.specs.Sum.{one};
 ghost use Rattle.tables.specs.HandBack.{planMerged, planBack};
-ghost use Rattle.bins.specs.InWords.{wordsOf, HasRoom};
+ghost use Rattle.answers.specs.Asked.{tokenOf};
+ghost use Rattle.records.specs.InWords.{wordsOf, HasRoom};
 ghost use Rattle.back_plan.specs.Plan.{planOf, Beside, joined, UnderRecord};
+use answers::Allocation;
 use answers::Handle;
 use answers::Refusal;
-use bins::nodes;
-use bins::totals::Totals;
+use records::nodes;
+use records::totals::Totals;
 use small_float::Size;
 
 // What the merged region will be: the record it is under, its length, its offset, the links to its neighbours, and the free total with it.
@@ -51,7 +53,7 @@ fn beside(nodes: &[u32], max_allocs: u32, link: Handle, outward: usize, own_offs
     requires { ⌜ outward < 8 ⌝ }
     ensures { λ s. ⌜ Beside (now (nodes .entry)) «max_allocs» (link .0) outward «own_offset» s ⌝ }
 {
-    if bins::live::is_free(nodes, max_allocs, link) {
+    if records::live::is_free(nodes, max_allocs, link) {
         return Side {
             link: link,
             free: true,
@@ -132,14 +134,15 @@ fn plan_merged(t: Totals, r: Handle, before: Side, after: Side, own: Size) -> Pl
     Planned::Merge(on_side(before), on_side(after), m)
 }
 
-// What a hand-back of record r finds: refused with 5 if it is not live. That the table holds every record the gate has tested.
-pub fn plan(t: Totals, nodes: &[u32], r: Handle) -> Planned
+// What a hand-back of this span finds: refused with 5 if its record is not live. That the table holds every record the gate has tested.
+pub fn plan(t: Totals, span: Allocation, nodes: &[u32]) -> Planned
     requires { ⌜ HasRoom (t .«max_allocs») (now nodes) ⌝ }
-    ensures { λ g. ⌜ ((heads leaves pile : List ℕ) → planOf g ≡ planBack (wordsOf t heads leaves (now (nodes .entry)) pile) (r .0)) ⌝ }
-    ensures { λ g. ⌜ UnderRecord (r .0) g ⌝ }
+    ensures { λ g. ⌜ ((heads leaves pile : List ℕ) → planOf g ≡ planBack (wordsOf t heads leaves (now (nodes .entry)) pile) (tokenOf span)) ⌝ }
+    ensures { λ g. ⌜ UnderRecord (span .metadata .0) g ⌝ }
 {
     let max_allocs = t.max_allocs;
-    if bins::live::is_live(nodes, max_allocs, r) {
+    let r = span.metadata;
+    if records::live::is_live(nodes, max_allocs, r) {
         let prev = Handle(nodes::word(nodes, r, nodes::NEIGHBOR_PREV));
         let next = Handle(nodes::word(nodes, r, nodes::NEIGHBOR_NEXT));
         let offset = nodes::word(nodes, r, nodes::DATA_OFFSET);

@@ -5,11 +5,11 @@ ghost use mathlib.Core.List.{List};
 ghost use lib.ListN.{getD};
 ghost use Rattle.tables.specs.Layout.{dataOffset, dataSize, binPrev, binNext, neighborPrev, neighborNext, put};
 ghost use Rattle.tables.specs.Steps.{insertNodes, joinNodes, insertAt, insert};
-ghost use Rattle.bins.specs.InWords.{wordsOf, bound, HasRoom, InTable};
-use crate::nodes;
-use crate::nodes::NONE;
-use crate::totals::Totals;
+ghost use Rattle.records.specs.InWords.{wordsOf, bound, HasRoom, InTable};
 use answers::Handle;
+use records::nodes;
+use records::nodes::NONE;
+use records::totals::Totals;
 use small_float::Class;
 use small_float::Size;
 

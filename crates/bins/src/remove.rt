@@ -6,10 +6,10 @@ ghost use mathlib.Core.List.{List};
 ghost use lib.Dec.{ltb};
 ghost use lib.ListN.{set};
 ghost use Rattle.tables.specs.Steps.{unlinkAt, unlink};
-ghost use Rattle.bins.specs.InWords.{wordsOf, bound, HasRoom, InTable};
-use crate::nodes;
-use crate::totals::Totals;
+ghost use Rattle.records.specs.InWords.{wordsOf, bound, HasRoom, InTable};
 use answers::Handle;
+use records::nodes;
+use records::totals::Totals;
 use small_float::Class;
 use small_float::Size;
 

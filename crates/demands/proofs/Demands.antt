@@ -28,7 +28,7 @@ use Rattle.tables.specs.Claims.{OneOf}
 use Rattle.tables.specs.Promise.{SetupPromise, Promise}
 use Rattle.tables.proofs.Gate.{Gated, bad-count, too-short, open-gate, gated?}
 use Rattle.tables.proofs.Claims as tables
-use Rattle.tables.proofs.Runs.{step-sound}
+use Rattle.tables.proofs.OverRuns.{step-sound}
 use Rattle.tables.proofs.Given.{count-rows}
 use Rattle.audit_words.specs.Promise.{AuditPromise}
 use Rattle.audit_words.proofs.Claims as auditing

@@ -1,6 +1,7 @@
 // Document 01's run to follow: each call with its answer, the report after it and a strip of the store.
 use crate::strip;
 use crate::text;
+use answers::Allocation;
 use answers::BackAnswer;
 use answers::Handle;
 use answers::Refusal;
@@ -110,11 +111,22 @@ fn print_freed(answer: BackAnswer, handed: u32, record: u32) -> u32 {
     }
 }
 
-fn hand_back(desk: Desk, record: u32, nodes: &mut [u32], free_nodes: &mut [u32]) -> Desk {
+// The span that was granted at this offset under this record.
+fn hand_back(
+    desk: Desk,
+    offset: u32,
+    record: u32,
+    nodes: &mut [u32],
+    free_nodes: &mut [u32],
+) -> Desk {
     text::print(b"hand back ");
     text::print_left(record, 5);
     let head = desk.head;
-    let freed = head.free(Handle(record), nodes, free_nodes);
+    let span = Allocation {
+        offset: offset,
+        metadata: Handle(record),
+    };
+    let freed = head.free(span, nodes, free_nodes);
     let answer = freed.answer;
     let known = print_freed(answer, record, desk.record);
     let head = freed.head;
@@ -134,11 +146,11 @@ pub fn print_run() {
     desk = take(desk, 30, &mut nodes, &mut free_nodes);
     desk = take(desk, 49, &mut nodes, &mut free_nodes);
     desk = take(desk, 48, &mut nodes, &mut free_nodes);
-    desk = hand_back(desk, 1, &mut nodes, &mut free_nodes);
-    desk = hand_back(desk, 1, &mut nodes, &mut free_nodes);
+    desk = hand_back(desk, 20, 1, &mut nodes, &mut free_nodes);
+    desk = hand_back(desk, 20, 1, &mut nodes, &mut free_nodes);
     desk = take(desk, 0, &mut nodes, &mut free_nodes);
     desk = take(desk, 1, &mut nodes, &mut free_nodes);
-    desk = hand_back(desk, 0, &mut nodes, &mut free_nodes);
-    desk = hand_back(desk, 3, &mut nodes, &mut free_nodes);
-    hand_back(desk, 2, &mut nodes, &mut free_nodes);
+    desk = hand_back(desk, 0, 0, &mut nodes, &mut free_nodes);
+    desk = hand_back(desk, 98, 3, &mut nodes, &mut free_nodes);
+    hand_back(desk, 50, 2, &mut nodes, &mut free_nodes);
 }

@@ -14,7 +14,7 @@ fn step(
     state: State,
     nodes: &mut [u32; 1048576],
     free_nodes: &mut [u32; 131072],
-    out: &mut [u32; 131072],
+    out: &mut [u32; 262144],
 ) -> State {
     let head = state.head;
     let before = state.draws;
@@ -30,8 +30,8 @@ fn step(
     if drawn.held == 0 {
         return State { head, draws: drawn };
     }
-    let handle = held::swap_remove(out, drawn.held, drawn.place());
-    let freed = head.free(handle, nodes, free_nodes);
+    let span = held::swap_remove(out, drawn.held, drawn.place());
+    let freed = head.free(span, nodes, free_nodes);
     let left = freed.head;
     let draws = drawn.gone_back();
     State { head: left, draws }
@@ -42,7 +42,7 @@ fn run(
     calls: u32,
     nodes: &mut [u32; 1048576],
     free_nodes: &mut [u32; 131072],
-    out: &mut [u32; 131072],
+    out: &mut [u32; 262144],
 ) -> State {
     let mut state = start;
     let mut i = 0u32;
@@ -57,7 +57,7 @@ fn drive_on(
     plan: Plan,
     nodes: &mut [u32; 1048576],
     free_nodes: &mut [u32; 131072],
-    out: &mut [u32; 131072],
+    out: &mut [u32; 262144],
 ) -> Draws {
     let started = Head::with_max_allocs(Size(plan.size), plan.records, nodes, free_nodes);
     let head = started.head;
@@ -71,6 +71,6 @@ fn drive_on(
 pub fn drive(plan: Plan) -> Draws {
     let mut nodes = [0u32; 1048576];
     let mut free_nodes = [0u32; 131072];
-    let mut out = [0u32; 131072];
+    let mut out = [0u32; 262144];
     drive_on(plan, &mut nodes, &mut free_nodes, &mut out)
 }

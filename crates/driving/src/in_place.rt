@@ -2,7 +2,7 @@
 use crate::held;
 use crate::progress::Draws;
 use crate::rows::Plan;
-use bins::totals::Totals;
+use records::totals::Totals;
 use small_float::Size;
 
 struct State {
@@ -16,7 +16,7 @@ fn step(
     used_bins: &mut [u8; 32],
     nodes: &mut [u32; 1048576],
     free_nodes: &mut [u32; 131072],
-    out: &mut [u32; 131072],
+    out: &mut [u32; 262144],
 ) -> State {
     let t = state.totals;
     let before = state.draws;
@@ -36,8 +36,8 @@ fn step(
             draws: drawn,
         };
     }
-    let handle = held::swap_remove(out, drawn.held, drawn.place());
-    let returned = giving::free(t, handle, bin_indices, used_bins, nodes, free_nodes);
+    let span = held::swap_remove(out, drawn.held, drawn.place());
+    let returned = giving::free(t, span, bin_indices, used_bins, nodes, free_nodes);
     let totals = returned.totals;
     let draws = drawn.gone_back();
     State { totals, draws }
@@ -47,7 +47,7 @@ fn run(
     plan: Plan,
     nodes: &mut [u32; 1048576],
     free_nodes: &mut [u32; 131072],
-    out: &mut [u32; 131072],
+    out: &mut [u32; 262144],
 ) -> Draws {
     let mut bin_indices = [0u32; 256];
     let mut used_bins = [0u8; 32];
@@ -81,6 +81,6 @@ fn run(
 pub fn drive(plan: Plan) -> Draws {
     let mut nodes = [0u32; 1048576];
     let mut free_nodes = [0u32; 131072];
-    let mut out = [0u32; 131072];
+    let mut out = [0u32; 262144];
     run(plan, &mut nodes, &mut free_nodes, &mut out)
 }

@@ -1,2 +1,2 @@
--- Walk: the outcomes of a hand-back, each the model's.
+-- Walk: a plan that goes on, and what its commit comes to.
 pub mod Walk

@@ -10,18 +10,18 @@ ghost use Rattle.tables.specs.HandBack.{merging};
 ghost use Rattle.tables.specs.Guards.{MergeGuards};
 ghost use Rattle.tables.specs.Promise.{Promise};
 ghost use Rattle.answers.specs.Asked.{tokenOf};
-ghost use Rattle.bins.specs.InWords.{wordsOf, bound, HasRoom};
+ghost use Rattle.records.specs.InWords.{wordsOf, bound, HasRoom};
 ghost use Rattle.answers.specs.Answers.{backSays};
 ghost use Rattle.giving.specs.Answers.{outcomeOf, handedBack};
 ghost use Rattle.back_plan.specs.Plan.{mergedIn};
+use answers::Allocation;
 use answers::BackAnswer;
-use answers::Handle;
 use answers::Refusal;
 use back_plan::Merged;
 use back_plan::Neighbor;
 use back_plan::Planned;
-use bins::gate::Gate;
-use bins::totals::Totals;
+use records::gate::Gate;
+use records::totals::Totals;
 
 pub struct Returned {
     pub answer: BackAnswer,
@@ -31,13 +31,13 @@ pub struct Returned {
 // The plan carried out. All its writes are here: without them the hand-back would be done in name alone.
 fn carry_out(
     t: Totals,
+    prev: Neighbor,
+    next: Neighbor,
+    m: Merged,
     bin_indices: &mut [u32; 256],
     used_bins: &mut [u8; 32],
     nodes: &mut [u32],
     free_nodes: &mut [u32],
-    prev: Neighbor,
-    next: Neighbor,
-    m: Merged,
 ) -> Returned
     requires { ⌜ HasRoom (t .«max_allocs») (now nodes) ⌝ }
     requires { ⌜ t .«max_allocs» ≤ length (now «free_nodes») ⌝ }
@@ -48,7 +48,7 @@ fn carry_out(
         (wordsOf t (now («bin_indices» .entry)) (now («used_bins» .entry)) (now (nodes .entry)) (now («free_nodes» .entry)))
         (m .record .0) (prev .link .0) (next .link .0) (prev .free) (next .free) (mergedIn m) ⌝ }
 {
-    let totals = back_commit::merge(bin_indices, used_bins, nodes, free_nodes, t, prev, next, m);
+    let totals = back_commit::merge(t, prev, next, m, bin_indices, used_bins, nodes, free_nodes);
     Returned {
         answer: BackAnswer::Done,
         totals: totals,
@@ -58,31 +58,31 @@ fn carry_out(
 // Behind the gate.
 fn give_back(
     t: Totals,
+    span: Allocation,
     bin_indices: &mut [u32; 256],
     used_bins: &mut [u8; 32],
     nodes: &mut [u32],
     free_nodes: &mut [u32],
-    r: Handle,
 ) -> Returned
     requires { ⌜ HasRoom (t .«max_allocs») (now nodes) ⌝ }
     requires { ⌜ t .«max_allocs» ≤ length (now «free_nodes») ⌝ }
     ensures { λ a. ⌜ outcomeOf a (now («bin_indices» .exit)) (now («used_bins» .exit)) (now (nodes .exit)) (now («free_nodes» .exit))
-        ≡ handedBack (r .0) (wordsOf t (now («bin_indices» .entry)) (now («used_bins» .entry)) (now (nodes .entry)) (now («free_nodes» .entry))) ⌝ }
+        ≡ handedBack (tokenOf span) (wordsOf t (now («bin_indices» .entry)) (now («used_bins» .entry)) (now (nodes .entry)) (now («free_nodes» .entry))) ⌝ }
 {
-    match back_plan::plan(t, nodes, r) {
+    match back_plan::plan(t, span, nodes) {
         Planned::Stop(why) => Returned {
             answer: BackAnswer::Refused(why),
             totals: t,
         },
         Planned::Merge(prev, next, m) => carry_out(
             t,
+            prev,
+            next,
+            m,
             bin_indices,
             used_bins,
             nodes,
             free_nodes,
-            prev,
-            next,
-            m,
         ),
     }
 }
@@ -90,22 +90,22 @@ fn give_back(
 // A span goes back, or why not. It merges with the free regions beside it and keeps its record.
 pub fn free(
     t: Totals,
-    handle: Handle,
+    span: Allocation,
     bin_indices: &mut [u32; 256],
     used_bins: &mut [u8; 32],
     nodes: &mut [u32],
     free_nodes: &mut [u32],
 ) -> Returned
-    ensures { λ a. ⌜ Promise edition32 (HandBack (tokenOf handle))
+    ensures { λ a. ⌜ Promise edition32 (HandBack (tokenOf span))
         (wordsOf t (now («bin_indices» .entry)) (now («used_bins» .entry)) (now (nodes .entry)) (now («free_nodes» .entry)))
         (wordsOf (a .totals) (now («bin_indices» .exit)) (now («used_bins» .exit)) (now (nodes .exit)) (now («free_nodes» .exit)))
         (backSays (a .answer)) ⌝ }
 {
-    match bins::gate::test(t.max_allocs, nodes, free_nodes, Refusal::Unsound) {
+    match records::gate::test(t.max_allocs, nodes, free_nodes, Refusal::Unsound) {
         Gate::Shut(why) => Returned {
             answer: BackAnswer::Refused(why),
             totals: t,
         },
-        Gate::Open => give_back(t, bin_indices, used_bins, nodes, free_nodes, handle),
+        Gate::Open => give_back(t, span, bin_indices, used_bins, nodes, free_nodes),
     }
 }

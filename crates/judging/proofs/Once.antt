@@ -1,17 +1,10 @@
--- A call is judged in one way, and so is an audit: what is said of a judgement decides it. Assumes nothing.
+-- A call is judged in one way: what is said of a judgement decides it. Assumes nothing.
 use mathlib.Core.Path.{refl}
 use mathlib.Core.Bool.{true, false}
 use Rattle.judging.specs.Judged.{OneJudgement}
-use Rattle.judging.specs.Audits.{OneAuditJudgement}
 
 pub one-judgement : OneJudgement
 one-judgement c a before after true true p q = refl
 one-judgement c a before after true false p q = absurd (p .blamed refl .1 (q .kept (p .blamed refl .0) refl))
 one-judgement c a before after false true p q = absurd (q .blamed refl .1 (p .kept (q .blamed refl .0) refl))
 one-judgement c a before after false false p q = refl
-
-pub one-audit-judgement : OneAuditJudgement
-one-audit-judgement before after scratch true true p q = refl
-one-audit-judgement before after scratch true false p q = absurd (p .blamed refl (q .kept refl .0) (q .kept refl .1))
-one-audit-judgement before after scratch false true p q = absurd (q .blamed refl (p .kept refl .0) (p .kept refl .1))
-one-audit-judgement before after scratch false false p q = refl

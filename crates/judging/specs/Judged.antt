@@ -3,25 +3,12 @@ use mathlib.Core.Path.{_≡_}
 use mathlib.Core.Bool.{Bool, true, false, cond}
 use Prim.Native.Nat.{ℕ, _+_}
 use lib.Dec.{ltb}
-use lib.ListN.{replicate}
-use Rattle.bins.specs.InWords.{zeroTotals}
-use Rattle.judging.specs.declared.answer.Answer.{Answer}
-use Rattle.judging.specs.declared.answer.Answer.the-variants as answer
-use Rattle.judging.specs.declared.call.Call.{Call}
-use Rattle.judging.specs.declared.call.Call.the-variants as call
-use Rattle.judging.specs.declared.numbers.Figures.{Figures}
-use Rattle.judging.specs.declared.store.Store.{Store}
-
--- an answer as numbers: its kind, and the one or two that it holds
-abbrev pub inNumbers : Answer → Figures
-inNumbers answer.Done = record { kind = 0; first = 0; second = 0 }
-inNumbers (answer.Granted offset number) = record { kind = 1; first = offset; second = number }
-inNumbers (answer.Length length) = record { kind = 2; first = length; second = 0 }
-inNumbers (answer.Free total largest) = record { kind = 3; first = total; second = largest }
-inNumbers (answer.Regions value regions) = record { kind = 4; first = value; second = regions }
-inNumbers (answer.Held classes) = record { kind = 5; first = classes; second = 0 }
-inNumbers (answer.Refused number) = record { kind = 6; first = number; second = 0 }
-inNumbers answer.Nothing = record { kind = 7; first = 0; second = 0 }
+use Rattle.call_values.specs.Stores.{noTotals, noArrays}
+use Rattle.call_values.specs.declared.answer.Answer.{Answer}
+use Rattle.call_values.specs.declared.answer.Answer.the-variants as answer
+use Rattle.call_values.specs.declared.call.Call.{Call}
+use Rattle.call_values.specs.declared.call.Call.the-variants as call
+use Rattle.call_values.specs.declared.store.Store.{Store}
 
 abbrev pub isRefused : Answer → Bool
 isRefused answer.Done = false
@@ -58,25 +45,6 @@ isSetUp call.Report = false
 isSetUp (call.ClassOf class) = false
 isSetUp call.ClassesHeld = false
 isSetUp call.Nothing = false
-
--- the same arrays and tables beside totals of zeros; the same totals and tables beside arrays of zeros
-abbrev pub noTotals : Store → Store
-noTotals s = record {
-  totals = zeroTotals;
-  «bin_indices» = s .«bin_indices»;
-  «used_bins» = s .«used_bins»;
-  nodes = s .nodes;
-  «free_nodes» = s .«free_nodes»;
-}
-
-abbrev pub noArrays : Store → Store
-noArrays s = record {
-  totals = s .totals;
-  «bin_indices» = replicate 256 0;
-  «used_bins» = replicate 32 0;
-  nodes = s .nodes;
-  «free_nodes» = s .«free_nodes»;
-}
 
 -- what a call that must leave every word leaves; a setup takes no totals, and where it is refused gives totals of zeros
 abbrev pub leftBy : Call → Store → Store

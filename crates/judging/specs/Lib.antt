@@ -1,4 +1,2 @@
--- Judged: what is held against each call. Audits: against an audit. Counted: how calls are counted.
+-- Judged: what is held against each call.
 pub mod Judged
-pub mod Audits
-pub mod Counted

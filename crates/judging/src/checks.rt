@@ -4,12 +4,12 @@ ghost use mathlib.Core.Bool.{true, false};
 ghost use Prim.Native.Nat.{_+_, _<_, _≤_};
 ghost use lib.Dec.{ltb};
 ghost use Rattle.judging.specs.Judged.{isRefused, isQuestion, mustKeep, isSetUp, leftBy, lentByValue, Kept, grantOutside, isOutside};
-use crate::alike;
-use crate::answer::Answer;
-use crate::call::Call;
-use crate::made::Made;
-use crate::numbers;
-use crate::store::Store;
+use alike::numbers;
+use alike::stores;
+use call_values::answer::Answer;
+use call_values::call::Call;
+use call_values::made::Made;
+use call_values::store::Store;
 
 // A span does not lie in a store of this size.
 fn span_is_outside(offset: u32, size: u32, store: u32) -> bool
@@ -102,7 +102,7 @@ pub fn has_changed(call: Call, before: Store, made: Made) -> bool
     let answer = made.answer;
     let after = made.after;
     if must_keep(call, answer) {
-        return !alike::same_store(after, left_by(call, before));
+        return !stores::same_store(after, left_by(call, before));
     }
     false
 }
@@ -150,5 +150,5 @@ pub fn differ(placed: Made, valued: Made) -> bool
     if !numbers::same_answers(a, b) {
         return true;
     }
-    !alike::same_store(s, t)
+    !stores::same_store(s, t)
 }

@@ -1,15 +1,17 @@
 -- The ledger is in order after the setup, after every call and after every run of calls. Assumes nothing.
-use Rattle.ledger.specs.Ledger.{Engine, Ledger, setup, take, handBack}
+use Rattle.ledger.specs.Ledger.{Engine, Ledger, setup, take}
 use Rattle.ledger.specs.Laws.{Laws}
 use Prim.Native.Nat.{ℕ, _-_, _≤_}
 use native.Mathlib.Omega.{arith}
 use mathlib.Core.List.{List, [], _∷_}
-use Rattle.ledger.specs.Calls.{answer, end, Call}
+use mathlib.Core.Path.{refl}
+use mathlib.Core.Logic.{_≢_}
+use Rattle.ledger.specs.Calls.{answer, end, Call, Reset}
 use Rattle.ledger.specs.WellFormed.{WellFormed}
 use Rattle.ledger.specs.Claims.{Reached}
 use Rattle.ledger.proofs.KeptLine.{cut-lined, merge-lined, setup-lined}
 use Rattle.ledger.proofs.KeptIndex.{cut-kept, merge-kept, setup-kept}
-use Rattle.ledger.proofs.Cases.{TakeCase, few-spares, no-region, serves, take-case, LiveCase, is-live, not-live, live-case}
+use Rattle.ledger.proofs.Cases.{TakeCase, few-spares, no-region, serves, take-case}
 use Rattle.ledger.proofs.Outcomes.{CallCase, refuses, cuts, merges, resets, asks, call-case}
 
 module _ (E : Engine) (laws : Laws E) where
@@ -25,12 +27,16 @@ module _ (E : Engine) (laws : Laws E) where
           kept = cut-kept E laws s (t .n - s) l (t .place) (w .kept);
         }
 
-    pub hand-back-well : (r : ℕ) (l : Ledger (E .Index)) → WellFormed E size count l → WellFormed E size count (handBack E r l .1)
-    hand-back-well r l w = go (live-case E w r)
-      where
-        go : LiveCase E r l → WellFormed E size count (handBack E r l .1)
-        go (not-live h e q) = rw e w
-        go (is-live n before after b e q) = rw e record { lined = merge-lined E size count l b (w .lined); kept = merge-kept E laws l b (w .kept) }
+    -- every call but a reset
+    pub keeps-well : {c : Call} (l : Ledger (E .Index)) → WellFormed E size count l → CallCase E size count l c → c ≢ Reset
+        → WellFormed E size count (answer E size count c l .1)
+    unfolding answer
+    keeps-well l w (refuses k h e) other = rw e w
+    keeps-well l w (cuts {asked = asked} t e) other = take-well (asked .size) l w
+    keeps-well l w (merges n before after b e) other =
+        rw e record { lined = merge-lined E size count l b (w .lined); kept = merge-kept E laws l b (w .kept) }
+    keeps-well l w resets other = absurd (other refl)
+    keeps-well l w asks other = w
 
   module _ (size count : ℕ) (two : 2 ≤ count) where
     pub setup-well : WellFormed E size count (setup E size count)

@@ -11,11 +11,12 @@ use Rattle.basics.proofs.Clash.{clash}
 use Rattle.basics.proofs.Decided.{Below, below, beyond, below?}
 use Rattle.ledger.specs.Ledger.{Region, live, free, len, find, granted, done, length-is, refused, Engine, Ledger}
 use Rattle.ledger.specs.Ledger.{spares, cut, merge, take, grantTop, grant, handBack, giveBack, sizeOf, lengthAt}
+use Rattle.ledger.specs.Calls.{spanOf, handsBack}
 use Rattle.ledger.specs.WellFormed.{has, WellFormed}
 use Rattle.ledger.specs.Spans.{At}
 use Rattle.ledger.specs.Laws.{Laws}
 use Rattle.ledger.specs.Claims.{Live}
-use Rattle.ledger.proofs.Places.{Between, between-at, at-counted, same-region}
+use Rattle.ledger.proofs.Places.{Between, between-at, at-counted, same-region, same-place}
 use Rattle.ledger.proofs.Find.{Found, missing, at, found?}
 use Rattle.ledger.proofs.Records.{once-in-line}
 
@@ -76,6 +77,24 @@ module _ (E : Engine) where
           let free-not-live : (k : ℕ) → free n q ≡ live k r → ⊥ = λ k c. clash (cc) in
           not-live (λ v. free-not-live (v .0) (same-region (between-at b) (v .2) r e refl (once-in-line (w .lined) r))) (rw m) (rw m)
       go (at before (live n q) after m b e z) = is-live n before after (rw e at b) (rw (m, e)) (rw m)
+
+  -- the hand-back of a region that is live at this offset
+  pub record Held (n r o : ℕ) (l : Ledger (E .Index)) : Type 0 where
+    pub before : List Region
+    pub after : List Region
+    pub place : Between before (live n r) after (l .line)
+    pub place-is : tally len before ≡ o
+    pub outcome : handsBack E (spanOf o r) l ≡ (done, merge E before n r after l)
+
+  pub held : {size count n r o : ℕ} {l : Ledger (E .Index)} → WellFormed E size count l → At (live n r) o (l .line) → Held n r o l
+  held {n = n} {r} {o} {l} w a = go (live-case w r)
+    where
+      go : LiveCase r l → Held n r o l
+      go (not-live h e q) = absurd (h (n, o, a))
+      go (is-live m before after b e q) =
+          let both = same-place (between-at b) a r refl refl (once-in-line (w .lined) r) in
+          let lengths : m ≡ n = cc (both .0) in
+          record { before = before; after = after; place = rw lengths at b; place-is = both .1; outcome = rw lengths at e }
 
 -- ---- which case a take is, by the engine's laws
 module _ (E : Engine) (laws : Laws E) where

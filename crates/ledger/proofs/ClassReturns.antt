@@ -12,7 +12,8 @@ use Rattle.basics.proofs.Counts.{Match, hit, miss, match?, is-own}
 use Rattle.basics.proofs.Sums.{tally-le, tally-append, one-most, both-first}
 use Rattle.small_float.specs.Class.{down}
 use Rattle.ledger.specs.Ledger.{Ledger, Stacks, by-class, Side, Region, live, free, len, rec, done}
-use Rattle.ledger.specs.Ledger.{onTop, remove, without, stands, beside, merge, handBack}
+use Rattle.ledger.specs.Ledger.{onTop, remove, without, stands, beside, merge}
+use Rattle.ledger.specs.Calls.{spanOf, handsBack}
 use Rattle.ledger.specs.WellFormed.{WellFormed, has}
 use Rattle.ledger.specs.Spans.{At}
 use Rattle.ledger.specs.Claims.{lacking, ClassReturn}
@@ -20,7 +21,7 @@ use Rattle.ledger.proofs.Places.{Between, between-at, sum-at, same-plac
 use Rattle.ledger.proofs.Records.{once-in-line}
 use Rattle.ledger.proofs.KeptLine.{side-has}
 use Rattle.ledger.proofs.KeptStacks.{stands-le, side-stands}
-use Rattle.ledger.proofs.Cases.{LiveCase, is-live, not-live, live-case}
+use Rattle.ledger.proofs.Cases.{Held, held}
 use Rattle.ledger.proofs.Returns.{merged, return-of}
 
 -- ---- a stack without records
@@ -110,12 +111,12 @@ side-lacks (free n r ∷ rest) others stacks exactly once d = without-is (down n
 ))
 
 module _ (size count : ℕ) where
-  class-return-of : {before after : List Region} {n r : ℕ} (l : Ledger Stacks) → WellFormed by-class size count l
-      → Between before (live n r) after (l .line) → handBack by-class r l ≡ (done, merge by-class before n r after l)
-      → ClassReturn n r (tally len before) l
+  class-return-of : {before after : List Region} {n r o : ℕ} (l : Ledger Stacks) → WellFormed by-class size count l
+      → Between before (live n r) after (l .line) → tally len before ≡ o → handsBack by-class (spanOf o r) l ≡ (done, merge by-class before n r after l)
+      → ClassReturn n r o l
   unfolding return-of merge onTop
-  class-return-of {before} {after} {n} {r} l w b e = record {
-    returned = return-of by-class size count l w b e;
+  class-return-of {before} {after} {n} {r} {o} l w b g e = record {
+    returned = return-of by-class size count l w b g e;
     gone = map rec (merged before) ++ map rec (merged after);
     gone-are = refl;
     on-top = ap (λ a. a .1 .index (down whole)) e ∙ rw (eqb-same (down whole)) (ap {B = List ℕ} (λ xs. r ∷ xs) (left (down whole)));
@@ -153,11 +154,4 @@ module _ (size count : ℕ) where
       not-there c h (differ p k) = rw k (left c)
 
   pub class-return : (n r o : ℕ) (l : Ledger Stacks) → WellFormed by-class size count l → At (live n r) o (l .line) → ClassReturn n r o l
-  class-return n r o l w a = go (live-case by-class w r)
-    where
-      go : LiveCase by-class r l → ClassReturn n r o l
-      go (not-live h e q) = absurd (h (n, o, a))
-      go (is-live m before after b e q) =
-          let both = same-place (between-at b) a r refl refl (once-in-line (w .lined) r) in
-          let lengths : m ≡ n = cc (both .0) in
-          subst (λ p. ClassReturn n r p l) (both .1) (subst (λ k. ClassReturn k r (tally len before) l) lengths (class-return-of l w b e))
+  class-return n r o l w a = let t = held by-class w a in class-return-of l w (t .place) (t .place-is) (t .outcome)

@@ -1,7 +1,6 @@
 -- The number and the figures of what a call on a ledger in order answers. Assumes nothing.
 use mathlib.Core.Path.{_≡_, refl, sym, ap}
 use Prim.Native.Nat.{ℕ}
-use native.Mathlib.Omega.{arith}
 use mathlib.Core.Logic.{_↔_, _≢_}
 use lib.ListN.{length, replicate, length-replicate}
 use Rattle.ledger.specs.Ledger.{Engine, Ledger, Stacks, by-class, Answer, granted, done, length-is, reported, classes, refused}
@@ -9,8 +8,7 @@ use Rattle.ledger.specs.Laws.{Laws}
 use Rattle.ledger.specs.Calls.{Call, answer}
 use Rattle.ledger.specs.Figures.{refusalOf, figureCount, figuresOf}
 use Rattle.ledger.specs.WellFormed.{WellFormed}
-use Rattle.ledger.specs.Claims.{CanRefuse, too-few-spares, none-reaches, not-live, unknown}
-use Rattle.ledger.proofs.Outcomes.{CallCase, refuses, cuts, merges, resets, asks, call-case}
+use Rattle.ledger.proofs.Outcomes.{CallCase, refuses, cuts, merges, resets, asks, call-case, refusal-numbers}
 use Rattle.ledger.proofs.Questions.{told-figures}
 use Rattle.ledger.proofs.Refusals.{no-other}
 use Rattle.ledger.proofs.ByClass.{class-laws}
@@ -33,17 +31,11 @@ zeros c (classes rows) h = absurd (h refl)
 zeros c (refused k) h = refl
 
 -- ---- of a call on a ledger in order
-number-not-0 : {c : Call} {k : ℕ} → CanRefuse c k → k ≢ 0
-number-not-0 too-few-spares e = omega arith
-number-not-0 none-reaches e = omega arith
-number-not-0 not-live e = omega arith
-number-not-0 unknown e = omega arith
-
 module _ (E : Engine) (laws : Laws E) (size count : ℕ) where
   pub number-tells : (c : Call) (k : ℕ) (l : Ledger (E .Index)) → WellFormed E size count l
       → (answer E size count c l .0 ≡ refused k) ↔ ((refusalOf (answer E size count c l .0) ≡ k) × (k ≢ 0))
   number-tells c k l w = (
-    λ e. (ap (λ a. refusalOf a) e, number-not-0 (no-other E laws size count c k l w e)),
+    λ e. (ap (λ a. refusalOf a) e, refusal-numbers (no-other E laws size count c k l w e) .0),
     λ x. named (answer E size count c l .0) k (x .0) (x .1),
   )
 

@@ -87,10 +87,10 @@ all-leave r (x ∷ cs) h = (
 )
 
 -- ---- a stretch
-may-end : (own : List ℕ) → Stretch own [] ↔ (own ≡ [])
+may-end : (own : List Token) → Stretch own [] ↔ (own ≡ [])
 may-end own = (nothing-owed own, λ e. rw e ended)
   where
-    nothing-owed : (xs : List ℕ) → Stretch xs [] → xs ≡ []
+    nothing-owed : (xs : List Token) → Stretch xs [] → xs ≡ []
     nothing-owed xs ended = refl
 
 -- ---- what stands beside a region, what is left of one, what goes on top
@@ -216,14 +216,14 @@ grant-notes-one : (s o r : ℕ) (out : List Span) → note (event (takes s) (gra
 unfolding note
 grant-notes-one s o r out = refl
 
-return-strikes-one : (n r : ℕ) (front back : List Span) → NoneHas r front
-    → note (event (hands-back r) done) (front ++ (record { size = n; number = r } ∷ back)) ≡ front ++ back
+return-strikes-one : (n o r : ℕ) (front back : List Span) → NoneHas r front
+    → note (event (hands-back o r) done) (front ++ (record { size = n; number = r } ∷ back)) ≡ front ++ back
 unfolding note
-return-strikes-one n r front back h = strikes-one n r front back h
+return-strikes-one n o r front back h = strikes-one n r front back h
 
-return-strikes-no-other : (r : ℕ) (out : List Span) → NoneHas r out → note (event (hands-back r) done) out ≡ out
+return-strikes-no-other : (o r : ℕ) (out : List Span) → NoneHas r out → note (event (hands-back o r) done) out ≡ out
 unfolding note
-return-strikes-no-other r out h = strikes-no-other r out h
+return-strikes-no-other o r out h = strikes-no-other r out h
 
 reset-strikes-all : (out : List Span) → note (event Reset done) out ≡ []
 unfolding note

@@ -3,12 +3,14 @@
 use mathlib.Core.Path.{_≡_}
 use Prim.Native.Nat.{ℕ, _-_}
 use mathlib.Core.List.{List}
+use mathlib.Core.Logic.{_≢_}
+use native.Mathlib.Omega.{arith}
 use Rattle.basics.specs.Sum.{tally}
 use Rattle.ledger.specs.Ledger.{Engine, Ledger, Region, live, len, granted, done, refused, cut, merge}
 use Rattle.ledger.specs.Calls.{Request, Token, Question, Call, Take, HandBack, Reset, Ask, answer}
 use Rattle.ledger.specs.WellFormed.{WellFormed}
 use Rattle.ledger.specs.Laws.{Laws}
-use Rattle.ledger.specs.Claims.{CanRefuse, too-few-spares, none-reaches}
+use Rattle.ledger.specs.Claims.{CanRefuse, too-few-spares, none-reaches, unknown}
 use Rattle.ledger.proofs.Places.{Between}
 use Rattle.ledger.proofs.Cases.{Serving, TakeCase, few-spares, no-region, serves, take-case, LiveCase, is-live, not-live, live-case}
 
@@ -24,6 +26,13 @@ module _ (E : Engine) (size count : ℕ) where
         → answer E size count (HandBack span) l ≡ (done, merge E before n (span .number) after l) → CallCase l (HandBack span)
     resets : CallCase l Reset
     asks : {q : Question} → CallCase l (Ask q)
+
+-- no number that is given is 0, by which an answer is told, or 6
+pub refusal-numbers : {c : Call} {k : ℕ} → CanRefuse c k → (k ≢ 0) × (k ≢ 6)
+refusal-numbers too-few-spares = (λ e. omega arith, λ e. omega arith)
+refusal-numbers none-reaches = (λ e. omega arith, λ e. omega arith)
+refusal-numbers CanRefuse.not-live = (λ e. omega arith, λ e. omega arith)
+refusal-numbers unknown = (λ e. omega arith, λ e. omega arith)
 
 module _ (E : Engine) (laws : Laws E) (size count : ℕ) where
   pub call-case : {l : Ledger (E .Index)} → WellFormed E size count l → (c : Call) → CallCase E size count l c

@@ -1,18 +1,41 @@
 -- Each question on a ledger in order: with which number it is refused, and how many figures it returns. Assumes nothing.
-use mathlib.Core.Path.{_≡_, refl, subst}
+use mathlib.Core.Path.{_≡_, refl, subst, ap}
+use mathlib.Core.Logic.{_⊎_, inl, inr}
 use Prim.Native.Nat.{ℕ, _+_}
 use native.Mathlib.Omega.{arith}
 use mathlib.Core.List.{List, [], _∷_, map}
 use lib.ListN.{length, length-map}
 use Rattle.basics.proofs.Clash.{clash}
 use Rattle.ledger.specs.Ledger.{Engine, Ledger, Stacks, by-class, refused, numbersFrom, fullAt, fullOf, sizeOf}
-use Rattle.ledger.specs.Calls.{Question, SizeOf, Report, FullReport, figuresTold, Ask, told}
+use Rattle.ledger.specs.Calls.{Question, SizeOf, Report, FullReport, figuresTold, Token, Ask, spanOf, QuestionsDiffer, told}
 use Rattle.ledger.specs.Figures.{inARow, figuresOf}
 use Rattle.ledger.specs.WellFormed.{WellFormed}
 use Rattle.ledger.specs.Claims.{CanRefuse, unknown}
 use Rattle.ledger.proofs.Numbers.{length-numbersFrom}
 use Rattle.ledger.proofs.Cases.{LiveCase, is-live, not-live, live-case}
 
+-- ---- which questions there are
+-- the span that a question names, any where it names none; and a number for each of those
+unfoldable pub spanAsked : Question → Token
+spanAsked (SizeOf span) = span
+spanAsked Report = spanOf 0 0
+spanAsked FullReport = spanOf 0 0
+
+unfoldable numberAsked : Question → ℕ
+numberAsked (SizeOf span) = 0
+numberAsked Report = 1
+numberAsked FullReport = 2
+
+pub every-question : (q : Question) → ((span : Token) × (q ≡ SizeOf span)) ⊎ ((q ≡ Report) ⊎ (q ≡ FullReport))
+every-question (SizeOf span) = inl (span, refl)
+every-question Report = inr (inl refl)
+every-question FullReport = inr (inr refl)
+
+pub questions-differ : QuestionsDiffer
+unfolding numberAsked
+questions-differ e = absurd (omega (arith, ap numberAsked e))
+
+-- ---- what a ledger in order answers
 module _ (E : Engine) (size count : ℕ) where
   pub told-refused : (q : Question) (k : ℕ) (l : Ledger (E .Index)) → WellFormed E size count l → told E size count q l ≡ refused k
       → CanRefuse (Ask q) k

@@ -97,8 +97,8 @@ module _ (E : Engine) (laws : Laws E) where
             let lengths : m ≡ n = cc in
             q ∙ ap length-is lengths
 
-    pub refusal-5 : (r : ℕ) (l : Ledger (E .Index)) → WellFormed E size count l → (handBack E r l .0 ≡ refused 5) ↔ (¬ Live r l)
-    refusal-5 r l w = go (live-case E w r)
+    pub refusal-5 : (o r : ℕ) (l : Ledger (E .Index)) → WellFormed E size count l → (handBack E r l .0 ≡ refused 5) ↔ (¬ Live r l)
+    refusal-5 o r l w = go (live-case E w r)
       where
         go : LiveCase E r l → (handBack E r l .0 ≡ refused 5) ↔ (¬ Live r l)
         go (not-live h e q) = (λ x. h, λ x. ap (λ a. a .0) e)

@@ -7,7 +7,8 @@ use mathlib.Core.List.{List, [], _∷_, _++_, map, reverse, reverseAux, reverseA
 use Rattle.basics.specs.Sum.{tally}
 use Rattle.basics.proofs.Clash.{clash}
 use Rattle.basics.proofs.Sums.{tally-reverseAux}
-use Rattle.ledger.specs.Ledger.{Engine, Ledger, Side, Region, live, free, len, rec, done, beside, merge, handBack}
+use Rattle.ledger.specs.Ledger.{Engine, Ledger, Side, Region, live, free, len, rec, done, beside, merge}
+use Rattle.ledger.specs.Calls.{spanOf, handsBack}
 use Rattle.ledger.specs.WellFormed.{WellFormed, Apart}
 use Rattle.ledger.specs.Spans.{At}
 use Rattle.ledger.specs.Claims.{NoneOrFree, none-there, one-there, Return}
@@ -15,7 +16,7 @@ use Rattle.ledger.proofs.Places.{Between, between-at, at-front, same-pl
 use Rattle.ledger.proofs.Apart.{apart-sides}
 use Rattle.ledger.proofs.Records.{once-in-line}
 use Rattle.ledger.proofs.KeptLine.{side-len}
-use Rattle.ledger.proofs.Cases.{LiveCase, is-live, not-live, live-case}
+use Rattle.ledger.proofs.Cases.{Held, held}
 
 -- ---- a side, the nearest region first: the free region that is merged, if there is one
 unfoldable pub merged : List Region → List Region
@@ -66,21 +67,21 @@ module _ (E : Engine) where
   none-left (free n r ∷ free k p ∷ rest) x h m q xs e = absurd (h .0)
 
   module _ (size count : ℕ) where
-    unfoldable pub return-of : {before after : List Region} {n r : ℕ} (l : Ledger (E .Index)) → WellFormed E size count l
-        → Between before (live n r) after (l .line) → handBack E r l ≡ (done, merge E before n r after l) → Return E n r (tally len before) l
+    unfoldable pub return-of : {before after : List Region} {n r o : ℕ} (l : Ledger (E .Index)) → WellFormed E size count l
+        → Between before (live n r) after (l .line) → tally len before ≡ o → handsBack E (spanOf o r) l ≡ (done, merge E before n r after l) → Return E n r o l
     unfolding merge
-    return-of {before} {after} {n} {r} l w b e = record {
+    return-of {before} {after} {n} {r} {o} l w b h e = record {
       front = front;
       before = merged before;
       after = merged after;
       back = a-side .rest;
       line-was = b .line-is ∙ before-is before (live n r ∷ after) (l .index)
           ∙ ap (λ zs. front ++ (merged before ++ (live n r ∷ zs))) (after-is after (b-side .index));
-      place-was = omega (arith, side-len E before (l .index), added-is before (l .index), front-len);
+      place-was = omega (arith, h, side-len E before (l .index), added-is before (l .index), front-len);
       free-before = none-or-free before;
       free-after = none-or-free after;
-      none-left-before = λ m q xs h. none-left before (l .index) (sides .0 .1) m q (reverse xs)
-          (sym (reverse-reverse (b-side .rest)) ∙ ap reverse h ∙ reverse-append xs (free m q ∷ []));
+      none-left-before = λ m q xs g. none-left before (l .index) (sides .0 .1) m q (reverse xs)
+          (sym (reverse-reverse (b-side .rest)) ∙ ap reverse g ∙ reverse-append xs (free m q ∷ []));
       none-left-after = λ m q xs h. none-left after (b-side .index) (sides .1 .1) m q xs h;
       answer-is = ap (λ a. a .0) e;
       whole = whole;
@@ -108,15 +109,8 @@ module _ (E : Engine) where
         sides : Apart (live n r ∷ before) × Apart (live n r ∷ after)
         sides = apart-sides before (live n r) after (rw (b .line-is) at (w .lined .apart))
 
-        line-is : handBack E r l .1 .line ≡ front ++ (free whole r ∷ a-side .rest)
+        line-is : handsBack E (spanOf o r) l .1 .line ≡ front ++ (free whole r ∷ a-side .rest)
         line-is = ap (λ a. a .1 .line) e ∙ reverseAux-eq (b-side .rest) (free whole r ∷ a-side .rest)
 
     pub the-return : (n r o : ℕ) (l : Ledger (E .Index)) → WellFormed E size count l → At (live n r) o (l .line) → Return E n r o l
-    the-return n r o l w a = go (live-case E w r)
-      where
-        go : LiveCase E r l → Return E n r o l
-        go (not-live h e q) = absurd (h (n, o, a))
-        go (is-live m before after b e q) =
-            let both = same-place (between-at b) a r refl refl (once-in-line (w .lined) r) in
-            let lengths : m ≡ n = cc (both .0) in
-            subst (λ p. Return E n r p l) (both .1) (subst (λ k. Return E k r (tally len before) l) lengths (return-of l w b e))
+    the-return n r o l w a = let t = held E w a in return-of l w (t .place) (t .place-is) (t .outcome)

@@ -3,39 +3,44 @@ use mathlib.Core.Path.{_≡_, refl, ap}
 use mathlib.Core.Logic.{_⊎_, inl, inr}
 use mathlib.Core.List.{List, [], _∷_, _++_, map}
 use Prim.Native.Nat.{ℕ}
-use Rattle.basics.proofs.Clash.{clash}
 use Rattle.ledger.specs.Ledger.{Answer}
-use Rattle.ledger.specs.Calls.{SizeOf, Report, FullReport, Call, Take, HandBack, Reset, Ask, takes, hands-back, asks-size, CallsMean}
+use Rattle.ledger.specs.Calls.{Token, Question, Call, Take, HandBack, Reset, Ask, takes, spanOf, CallsMean}
+use Rattle.ledger.proofs.Questions.{spanAsked, every-question, questions-differ}
 use Rattle.ledger.specs.Calls.{callOf, answerOf, end, answers, log, RunsMean}
 
 -- ---- calls
--- the number that a call asks for, 0 where it asks for none
-numberIn : Call → ℕ
-numberIn (Take asked) = asked .size
-numberIn (HandBack span) = span .number
-numberIn Reset = 0
-numberIn (Ask (SizeOf span)) = span .number
-numberIn (Ask Report) = 0
-numberIn (Ask FullReport) = 1
+-- the size that a call asks for, 0 where it asks for none; the span that it names, any where it names none
+sizeIn : Call → ℕ
+sizeIn (Take asked) = asked .size
+sizeIn (HandBack span) = 0
+sizeIn Reset = 0
+sizeIn (Ask q) = 0
+
+spanIn : Call → Token
+spanIn (Take asked) = spanOf 0 0
+spanIn (HandBack span) = span
+spanIn Reset = spanOf 0 0
+spanIn (Ask q) = spanAsked q
 
 every-call : (c : Call)
     → ((s : ℕ) × (c ≡ takes s))
-    ⊎ (((r : ℕ) × (c ≡ hands-back r)) ⊎ ((c ≡ Reset) ⊎ (((r : ℕ) × (c ≡ asks-size r)) ⊎ ((c ≡ Ask Report) ⊎ (c ≡ Ask FullReport)))))
+    ⊎ (((span : Token) × (c ≡ HandBack span)) ⊎ ((c ≡ Reset) ⊎ ((q : Question) × (c ≡ Ask q))))
 every-call (Take asked) = inl (asked .size, refl)
-every-call (HandBack span) = inr (inl (span .number, refl))
+every-call (HandBack span) = inr (inl (span, refl))
 every-call Reset = inr (inr (inl refl))
-every-call (Ask (SizeOf span)) = inr (inr (inr (inl (span .number, refl))))
-every-call (Ask Report) = inr (inr (inr (inr (inl refl))))
-every-call (Ask FullReport) = inr (inr (inr (inr (inr refl))))
+every-call (Ask q) = inr (inr (inr (q, refl)))
 
 pub calls-mean : CallsMean
-unfolding numberIn
+unfolding sizeIn spanIn spanAsked
 calls-mean = record {
   every-call = every-call;
-  one-size = λ s t e. ap numberIn e;
-  one-record = λ r q e. ap numberIn e;
-  one-record-asked = λ r q e. ap numberIn e;
-  reports-differ = λ e. clash (ap (λ q. numberIn (Ask q)) e);
+  every-question = every-question;
+  every-span = λ span. (0, (span .number, refl));
+  one-size = λ s t e. ap sizeIn e;
+  one-span = λ s t e. ap spanIn e;
+  one-span-asked = λ s t e. ap spanAsked e;
+  one-record = λ o p r q e. ap (λ (span : Token). span .number) e;
+  questions-differ = questions-differ;
 }
 
 -- ---- runs

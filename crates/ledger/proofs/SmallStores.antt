@@ -10,9 +10,9 @@ use Rattle.basics.proofs.Decided.{below, beyond, below?}
 use Rattle.small_float.specs.Class.{down, up}
 use Rattle.ledger.specs.Ledger.{Ledger, live, free, Answer, granted, done, refused, by-class, Stacks}
 use Rattle.ledger.specs.Ledger.{onTop, without, lowest, numbersFrom, setup, take, handBack}
-use Rattle.ledger.specs.Calls.{Call, takes, hands-back, answers, answer}
+use Rattle.ledger.specs.Calls.{Token, Call, HandBack, takes, hands-back, spanOf, handsBack, answers, answer}
 use Rattle.ledger.specs.Claims.{Reached}
-use Rattle.ledger.specs.Runs.{Answering, SmallStores}
+use Rattle.ledger.specs.RunToFollow.{Answering, SmallStores}
 use Rattle.ledger.proofs.Numbers.{length-numbersFrom}
 use Rattle.ledger.proofs.Stacks.{onTop-without}
 use Rattle.ledger.proofs.Records.{all-records}
@@ -47,10 +47,10 @@ answers-take : (size count s : ℕ) (cs : List Call) (l : Ledger Stacks) (a : An
 unfolding answer answers onTop without lowest
 answers-take size count s cs l a e = ap (λ x. x .0 ∷ answers (answer by-class size count) cs (x .1)) e
 
-answers-hand-back : (size count r : ℕ) (cs : List Call) (l : Ledger Stacks) (a : Answer × Ledger Stacks) → handBack by-class r l ≡ a
-    → answers (answer by-class size count) (hands-back r ∷ cs) l ≡ a .0 ∷ answers (answer by-class size count) cs (a .1)
+answers-hand-back : (size count : ℕ) (span : Token) (cs : List Call) (l : Ledger Stacks) (a : Answer × Ledger Stacks) → handsBack by-class span l ≡ a
+    → answers (answer by-class size count) (HandBack span ∷ cs) l ≡ a .0 ∷ answers (answer by-class size count) cs (a .1)
 unfolding answer answers onTop without lowest
-answers-hand-back size count r cs l a e = ap (λ x. x .0 ∷ answers (answer by-class size count) cs (x .1)) e
+answers-hand-back size count span cs l a e = ap (λ x. x .0 ∷ answers (answer by-class size count) cs (x .1)) e
 
 -- its one region, free or live, with any spare records
 zeroFree : List ℕ → Ledger Stacks
@@ -67,22 +67,22 @@ refuses-0 : (pile : List ℕ) → ltb 1 (length pile) ≡ true → take by-class
 unfolding zeroLive take up onTop without lowest
 refuses-0 pile two = rw two
 
-returns-0 : (pile : List ℕ) → handBack by-class 0 (zeroLive pile) ≡ (done, zeroFree pile)
+returns-0 : (pile : List ℕ) → handsBack by-class (spanOf 0 0) (zeroLive pile) ≡ (done, zeroFree pile)
 unfolding zeroFree zeroLive handBack down onTop without lowest
 returns-0 pile =
     let restored = onTop-without (down 0) 0 (onTop (down 0) 0 (λ c. [])) [] refl in
     λ i. (done, record { line = free 0 0 ∷ []; index = restored i; pile = pile })
 
 store-of-0 : (count : ℕ) → 3 ≤ count
-    → Answering 0 count (takes 0 ∷ takes 0 ∷ hands-back 0 ∷ takes 0 ∷ []) (granted 0 0 ∷ refused 4 ∷ done ∷ granted 0 0 ∷ [])
+    → Answering 0 count (takes 0 ∷ takes 0 ∷ hands-back 0 0 ∷ takes 0 ∷ []) (granted 0 0 ∷ refused 4 ∷ done ∷ granted 0 0 ∷ [])
 unfolding answer setup zeroFree answers onTop without lowest
 store-of-0 count h =
     let pile = numbersFrom 1 (count - 1) in
     let two = two-spare count h in
     let take-again = answers-take 0 count 0 [] (zeroFree pile) _ (grants-0 pile two) in
-    let return-it = answers-hand-back 0 count 0 (takes 0 ∷ []) (zeroLive pile) _ (returns-0 pile) in
-    let take-another = answers-take 0 count 0 (hands-back 0 ∷ takes 0 ∷ []) (zeroLive pile) _ (refuses-0 pile two) in
-    let take-one = answers-take 0 count 0 (takes 0 ∷ hands-back 0 ∷ takes 0 ∷ []) (zeroFree pile) _ (grants-0 pile two) in
+    let return-it = answers-hand-back 0 count (spanOf 0 0) (takes 0 ∷ []) (zeroLive pile) _ (returns-0 pile) in
+    let take-another = answers-take 0 count 0 (hands-back 0 0 ∷ takes 0 ∷ []) (zeroLive pile) _ (refuses-0 pile two) in
+    let take-one = answers-take 0 count 0 (takes 0 ∷ hands-back 0 0 ∷ takes 0 ∷ []) (zeroFree pile) _ (grants-0 pile two) in
     take-one ∙ ap (λ rest. granted 0 0 ∷ rest) (take-another ∙ ap (λ rest. refused 4 ∷ rest) (return-it ∙ ap (λ rest. done ∷ rest) take-again))
 
 pub small-stores : SmallStores

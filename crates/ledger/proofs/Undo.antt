@@ -10,6 +10,7 @@ use lib.ListN.{length, getD, drop}
 use lib.Seq.{drop-cons}
 use Rattle.basics.specs.Sum.{tally}
 use Rattle.basics.proofs.Clash.{clash}
+use Rattle.ledger.specs.Calls.{spanOf, handsBack}
 use Rattle.ledger.specs.WellFormed.{WellFormed, has, Abut}
 use Rattle.ledger.proofs.Places.{Between}
 use Rattle.ledger.proofs.Find.{find-there}
@@ -57,7 +58,7 @@ module _ (E : Engine) (laws : Laws E) where
 
   module _ (size count : ℕ) where
     pub undo : (s o r : ℕ) (l : Ledger (E .Index)) → WellFormed E size count l → take E s l .0 ≡ granted o r
-        → handBack E r (take E s l .1) ≡ (done, l)
+        → handsBack E (spanOf o r) (take E s l .1) ≡ (done, l)
     undo s o r l w g = go (take-case E laws w s)
       where
         of-serving : (t : Serving E s l) → handBack E (t .r) (cut E s (t .n - s) (t .before) (t .n) (t .r) (t .after) l) ≡ (done, l)

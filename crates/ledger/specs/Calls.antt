@@ -35,22 +35,33 @@ pub data Call : Type 0 where
 abbrev pub takes : (s : ℕ) → Call
 takes s = Take record { size = s }
 
-abbrev pub hands-back : (r : ℕ) → Call
-hands-back r = HandBack record { number = r }
+-- the span that was granted at this offset under this record, named again: by its record alone
+abbrev pub spanOf : (o r : ℕ) → Token
+spanOf o r = record { number = r }
+
+abbrev pub hands-back : (o r : ℕ) → Call
+hands-back o r = HandBack (spanOf o r)
 
 abbrev pub asks-size : (r : ℕ) → Call
 asks-size r = Ask (SizeOf record { number = r })
 
--- what a call holds, told from the other side: each is one of these, and no size and no record that is asked for is lost.
+-- no two questions that name no span are one
+abbrev pub QuestionsDiffer : Type 0
+QuestionsDiffer = Report ≢ FullReport
+
+-- what a call holds, told from the other side: each is one of these, and no size, no span and no record that is asked for is lost.
 -- proofs/RunsMean.antt makes it
 pub record CallsMean : Type 0 where
   pub every-call : (c : Call)
       → ((s : ℕ) × (c ≡ takes s))
-      ⊎ (((r : ℕ) × (c ≡ hands-back r)) ⊎ ((c ≡ Reset) ⊎ (((r : ℕ) × (c ≡ asks-size r)) ⊎ ((c ≡ Ask Report) ⊎ (c ≡ Ask FullReport)))))
+      ⊎ (((span : Token) × (c ≡ HandBack span)) ⊎ ((c ≡ Reset) ⊎ ((q : Question) × (c ≡ Ask q))))
+  pub every-question : (q : Question) → ((span : Token) × (q ≡ SizeOf span)) ⊎ ((q ≡ Report) ⊎ (q ≡ FullReport))
+  pub every-span : (span : Token) → (o : ℕ) × ((r : ℕ) × (span ≡ spanOf o r))
   pub one-size : (s t : ℕ) → takes s ≡ takes t → s ≡ t
-  pub one-record : (r q : ℕ) → hands-back r ≡ hands-back q → r ≡ q
-  pub one-record-asked : (r q : ℕ) → asks-size r ≡ asks-size q → r ≡ q
-  pub reports-differ : Report ≢ FullReport
+  pub one-span : (s t : Token) → HandBack s ≡ HandBack t → s ≡ t
+  pub one-span-asked : (s t : Token) → SizeOf s ≡ SizeOf t → s ≡ t
+  pub one-record : (o p r q : ℕ) → spanOf o r ≡ spanOf p q → r ≡ q
+  pub questions-differ : QuestionsDiffer
 
 -- a call with its answer
 pub data Event : Type 0 where
@@ -61,6 +72,10 @@ callOf (event c a) = c
 
 abbrev pub answerOf : Event → Answer
 answerOf (event c a) = a
+
+-- a span named again is handed back by its record
+abbrev pub handsBack : (E : Engine) → Token → Ledger (E .Index) → Answer × Ledger (E .Index)
+handsBack E span l = handBack E (span .number) l
 
 -- a store set up with this size and this count of records, under this engine
 module _ (E : Engine) (size count : ℕ) where

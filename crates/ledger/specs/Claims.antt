@@ -14,8 +14,8 @@ use Rattle.basics.specs.Extreme.{Least}
 use Rattle.small_float.specs.Class.{down, up, value, shownValue}
 use Rattle.small_float.specs.Facts.{Serves}
 use Rattle.ledger.specs.Ledger.{Engine, by-class, Stacks, Ledger, Region, live, free, len, rec, granted, done, length-is, refused}
-use Rattle.ledger.specs.Ledger.{setup, take, handBack, sizeOf, freeLen, report, fullReport, numbersFrom}
-use Rattle.ledger.specs.Calls.{Request, Token, SizeOf, Call, Take, HandBack, Reset, Ask, answer, end, answers, log}
+use Rattle.ledger.specs.Ledger.{setup, take, sizeOf, freeLen, report, fullReport, numbersFrom}
+use Rattle.ledger.specs.Calls.{Request, Token, SizeOf, Call, Take, HandBack, Reset, Ask, spanOf, handsBack, answer, end, answers, log}
 use Rattle.ledger.specs.Figures.{refusalOf, figureCount, figuresOf}
 use Rattle.ledger.specs.WellFormed.{WellFormed}
 use Rattle.ledger.specs.Spans.{At, FreeIn, Among, Disjoint, AllLeave}
@@ -84,13 +84,13 @@ pub record Return (E : Engine) (n r o : ℕ) (l : Ledger (E .Index)) : Type 0 wh
   pub free-after : NoneOrFree after
   pub none-left-before : (m q : ℕ) (xs : List Region) → front ≢ xs ++ (free m q ∷ [])
   pub none-left-after : (m q : ℕ) (xs : List Region) → back ≢ free m q ∷ xs
-  pub answer-is : handBack E r l .0 ≡ done
+  pub answer-is : handsBack E (spanOf o r) l .0 ≡ done
   pub whole : ℕ
   pub whole-is : whole ≡ tally len before + n + tally len after
-  pub line-is : handBack E r l .1 .line ≡ front ++ (free whole r ∷ back)
-  pub place-is : At (free whole r) (tally len front) (handBack E r l .1 .line)
+  pub line-is : handsBack E (spanOf o r) l .1 .line ≡ front ++ (free whole r ∷ back)
+  pub place-is : At (free whole r) (tally len front) (handsBack E (spanOf o r) l .1 .line)
   -- the pile's first is the next to be taken, so what went onto it first stands further in
-  pub pile-is : handBack E r l .1 .pile ≡ map rec after ++ (map rec before ++ l .pile)
+  pub pile-is : handsBack E (spanOf o r) l .1 .pile ≡ map rec after ++ (map rec before ++ l .pile)
 
 -- a ledger that some run of calls after the setup leaves
 abbrev pub Reached : (E : Engine) → ℕ → ℕ → Ledger (E .Index) → Type 0
@@ -156,7 +156,7 @@ pub record EngineClaims (E : Engine) (size count : ℕ) : Type 0 where
   pub refusal-3 : (s : ℕ) (l : Ledger (E .Index)) → WellFormed E size count l → (take E s l .0 ≡ refused 3) ↔ (length (l .pile) ≤ 1)
   pub refusal-4 : (s : ℕ) (l : Ledger (E .Index)) → WellFormed E size count l
       → (take E s l .0 ≡ refused 4) ↔ ((2 ≤ length (l .pile)) × NoneReaches E s l)
-  pub refusal-5 : (r : ℕ) (l : Ledger (E .Index)) → WellFormed E size count l → (handBack E r l .0 ≡ refused 5) ↔ (¬ Live r l)
+  pub refusal-5 : (o r : ℕ) (l : Ledger (E .Index)) → WellFormed E size count l → (handsBack E (spanOf o r) l .0 ≡ refused 5) ↔ (¬ Live r l)
   pub size-refusal-5 : (r : ℕ) (l : Ledger (E .Index)) → WellFormed E size count l → (sizeOf r l ≡ refused 5) ↔ (¬ Live r l)
   pub live-below : (r : ℕ) (l : Ledger (E .Index)) → WellFormed E size count l → Live r l → r < count
   pub no-other : (c : Call) (k : ℕ) (l : Ledger (E .Index)) → WellFormed E size count l
@@ -229,8 +229,8 @@ pub record ClassReturn (n r o : ℕ) (l : Ledger Stacks) : Type 0 where
   pub returned : Return by-class n r o l
   pub gone : List ℕ
   pub gone-are : gone ≡ map rec (returned .before) ++ map rec (returned .after)
-  pub on-top : handBack by-class r l .1 .index (down (returned .whole)) ≡ r ∷ lacking gone (l .index (down (returned .whole)))
-  pub elsewhere : (c : ℕ) → c ≢ down (returned .whole) → handBack by-class r l .1 .index c ≡ lacking gone (l .index c)
+  pub on-top : handsBack by-class (spanOf o r) l .1 .index (down (returned .whole)) ≡ r ∷ lacking gone (l .index (down (returned .whole)))
+  pub elsewhere : (c : ℕ) → c ≢ down (returned .whole) → handsBack by-class (spanOf o r) l .1 .index c ≡ lacking gone (l .index c)
 
 pub record ClassClaims (size count : ℕ) : Type 0 where
   pub grant : (s o r : ℕ) (l : Ledger Stacks) → WellFormed by-class size count l → take by-class s l .0 ≡ granted o r

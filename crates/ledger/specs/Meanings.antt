@@ -8,7 +8,7 @@ use lib.ListN.{length, getD}
 use Rattle.basics.specs.Sum.{tally}
 use Rattle.small_float.specs.Class.{down}
 use Rattle.ledger.specs.Ledger.{Region, live, free, len, Stacks, onTop, numbersFrom, Answer, granted, done, refused}
-use Rattle.ledger.specs.Calls.{Request, Token, Question, SizeOf, Call, Take, HandBack, Reset, Ask, takes, hands-back, Event, event}
+use Rattle.ledger.specs.Calls.{Request, Token, Question, SizeOf, Call, Take, HandBack, Reset, Ask, takes, hands-back, spanOf, Event, event}
 use Rattle.ledger.specs.Spans.{At, FreeIn, Among, Disjoint, Leaves, AllLeave}
 use Rattle.ledger.specs.History.{Span, note, liveOne}
 use Rattle.ledger.specs.Stretch.{Stretch}
@@ -42,14 +42,14 @@ pub record Meanings : Type 0 where
       → AllLeave r cs ↔ ((before after : List Call) (c : Call) → cs ≡ before ++ (c ∷ after)
       → ((span : Token) → c ≡ HandBack span → span .number ≢ r) × (c ≢ Reset))
   -- ---- a stretch may begin with any grant, the return of the last granted, any refused call and any question, however it is answered
-  pub may-grant : (own : List ℕ) (es : List Event) (asked : Request) (o r : ℕ) → Stretch (r ∷ own) es
+  pub may-grant : (own : List Token) (es : List Event) (asked : Request) (o r : ℕ) → Stretch (spanOf o r ∷ own) es
       → Stretch own (event (Take asked) (granted o r) ∷ es)
-  pub may-return : (own : List ℕ) (es : List Event) (span : Token) → Stretch own es
-      → Stretch (span .number ∷ own) (event (HandBack span) done ∷ es)
-  pub may-refuse : (own : List ℕ) (es : List Event) (c : Call) (k : ℕ) → Stretch own es → Stretch own (event c (refused k) ∷ es)
-  pub may-ask : (own : List ℕ) (es : List Event) (q : Question) (a : Answer) → Stretch own es → Stretch own (event (Ask q) a ∷ es)
+  pub may-return : (own : List Token) (es : List Event) (span : Token) → Stretch own es
+      → Stretch (span ∷ own) (event (HandBack span) done ∷ es)
+  pub may-refuse : (own : List Token) (es : List Event) (c : Call) (k : ℕ) → Stretch own es → Stretch own (event c (refused k) ∷ es)
+  pub may-ask : (own : List Token) (es : List Event) (q : Question) (a : Answer) → Stretch own es → Stretch own (event (Ask q) a ∷ es)
   -- it ends where nothing is owed
-  pub may-end : (own : List ℕ) → Stretch own [] ↔ (own ≡ [])
+  pub may-end : (own : List Token) → Stretch own [] ↔ (own ≡ [])
   -- ---- what stands beside a region that is handed back, what is left of one that is granted, and what goes on top of its class
   pub none-or-free : (xs : List Region) → NoneOrFree xs ↔ ((xs ≡ []) ⊎ ((n : ℕ) × (r : ℕ) × (xs ≡ free n r ∷ [])))
   pub remainder-of-0 : (pile : List ℕ) (xs : List Region) (rest : List ℕ) → Remainder 0 pile xs rest → (xs ≡ []) × (rest ≡ pile)
@@ -75,8 +75,8 @@ pub record Meanings : Type 0 where
   pub question-notes-nothing : (q : Question) (a : Answer) (out : List Span) → note (event (Ask q) a) out ≡ out
   -- a grant adds one span; a return that is done strikes the last such, and no other; a reset that is done strikes all
   pub grant-notes-one : (s o r : ℕ) (out : List Span) → note (event (takes s) (granted o r)) out ≡ record { size = s; number = r } ∷ out
-  pub return-strikes-one : (n r : ℕ) (front back : List Span) → ((xs ys : List Span) (x : Span) → front ≡ xs ++ (x ∷ ys) → x .number ≢ r)
-      → note (event (hands-back r) done) (front ++ (record { size = n; number = r } ∷ back)) ≡ front ++ back
-  pub return-strikes-no-other : (r : ℕ) (out : List Span) → ((xs ys : List Span) (x : Span) → out ≡ xs ++ (x ∷ ys) → x .number ≢ r)
-      → note (event (hands-back r) done) out ≡ out
+  pub return-strikes-one : (n o r : ℕ) (front back : List Span) → ((xs ys : List Span) (x : Span) → front ≡ xs ++ (x ∷ ys) → x .number ≢ r)
+      → note (event (hands-back o r) done) (front ++ (record { size = n; number = r } ∷ back)) ≡ front ++ back
+  pub return-strikes-no-other : (o r : ℕ) (out : List Span) → ((xs ys : List Span) (x : Span) → out ≡ xs ++ (x ∷ ys) → x .number ≢ r)
+      → note (event (hands-back o r) done) out ≡ out
   pub reset-strikes-all : (out : List Span) → note (event Reset done) out ≡ []

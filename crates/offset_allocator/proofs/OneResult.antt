@@ -3,14 +3,11 @@ use mathlib.Core.Path.{_≡_, sym, ap, _∙_}
 use mathlib.Core.List.{List}
 use Prim.Native.Nat.{ℕ}
 use Rattle.ledger.specs.Ledger.{Answer}
-use Rattle.ledger.specs.Calls.{Call}
-use Rattle.tables.specs.Words.{Words}
-use Rattle.tables.specs.Calls.{edition32}
-use Rattle.tables.specs.Promise.{Promise}
-use Rattle.tables.proofs.Promise.{one-outcome, one-setup}
+use Rattle.tables.specs.Words.{Words, Edition}
+use Rattle.tables.proofs.Promise.{answers-same, words-same, one-setup}
 use Rattle.answers.proofs.OneValue.{one-value}
-use Rattle.bins.specs.declared.totals.Totals.{Totals}
-use Rattle.bins.specs.InWords.{wordsOf, totalsIn}
+use Rattle.records.specs.declared.totals.Totals.{Totals}
+use Rattle.records.specs.InWords.{wordsOf, totalsIn}
 use Rattle.offset_allocator.specs.OneResult.{InPlace, ByValue, Form, in-place, by-value, OneResult}
 
 -- ---- words fix what they are made of
@@ -39,34 +36,27 @@ valued v u e = λ i. record {
   pile = e i .pile;
 }
 
--- ---- promises
-answers-same : {w v u : Words} {c : Call} {a b : Answer} → Promise edition32 c w v a → Promise edition32 c w u b → a ≡ b
-answers-same {w} {c = c} p q = ap (λ (x : Answer × Words). x .0) (one-outcome edition32 c w p q)
-
-words-same : {w v u : Words} {c : Call} {a b : Answer} → Promise edition32 c w v a → Promise edition32 c w u b → v ≡ u
-words-same {w} {c = c} p q = ap (λ (x : Answer × Words). x .1) (one-outcome edition32 c w p q)
-
--- in any form whose words fix what it leaves
-one-result-in : (F : Form) → ((v u : F .Left) → F .words v ≡ F .words u → v ≡ u) → OneResult F
-one-result-in F fixed = record {
+-- ---- promises, in any form whose words fix what it leaves
+one-result-in : (E : Edition) (F : Form) → ((v u : F .Left) → F .words v ≡ F .words u → v ≡ u) → OneResult E F
+one-result-in E F fixed = record {
   of-setup = λ size count lent a b v u p q. (
-    one-value .of-start a b (ap (λ (x : Answer × Words). x .0) (one-setup edition32 size count lent p q)),
-    fixed v u (ap (λ (x : Answer × Words). x .1) (one-setup edition32 size count lent p q)),
+    one-value .of-start a b (ap (λ (x : Answer × Words). x .0) (one-setup E size count lent p q)),
+    fixed v u (ap (λ (x : Answer × Words). x .1) (one-setup E size count lent p q)),
   );
-  of-reset = λ c w a b v u p q. (one-value .of-start a b (answers-same p q), fixed v u (words-same p q));
-  of-take = λ c w a b v u p q. (one-value .of-take a b (answers-same p q), fixed v u (words-same p q));
-  of-back = λ c w a b v u p q. (one-value .of-back a b (answers-same p q), fixed v u (words-same p q));
-  of-size = λ q w a b p r. one-value .of-size a b (answers-same p r);
-  of-report = λ q w a b p r. one-value .of-report a b (answers-same p r);
-  of-full = λ q w a b l m z y p r. one-value .of-full a b l m z y (answers-same p r);
+  of-reset = λ c w a b v u p q. (one-value .of-start a b (answers-same E p q), fixed v u (words-same E p q));
+  of-take = λ c w a b v u p q. (one-value .of-take a b (answers-same E p q), fixed v u (words-same E p q));
+  of-back = λ c w a b v u p q. (one-value .of-back a b (answers-same E p q), fixed v u (words-same E p q));
+  of-size = λ q w a b p r. one-value .of-size a b (answers-same E p r);
+  of-report = λ q w a b p r. one-value .of-report a b (answers-same E p r);
+  of-full = λ q w a b l m z y p r. one-value .of-full a b l m z y (answers-same E p r);
   of-audit = λ w scratch left other a b p q. (
     one-value .of-audit a b (ap (λ (x : Answer × List ℕ). x .0) (p .exact ∙ sym (q .exact))),
     ap (λ (x : Answer × List ℕ). x .1) (p .exact ∙ sym (q .exact)),
   );
 }
 
-pub one-result-in-place : OneResult in-place
-one-result-in-place = one-result-in in-place placed
+pub one-result-in-place : (E : Edition) → OneResult E in-place
+one-result-in-place E = one-result-in E in-place placed
 
-pub one-result-by-value : OneResult by-value
-one-result-by-value = one-result-in by-value valued
+pub one-result-by-value : (E : Edition) → OneResult E by-value
+one-result-by-value E = one-result-in E by-value valued

@@ -2,7 +2,7 @@
 use Prim.Native.Nat.{ℕ}
 use mathlib.Core.List.{List}
 use Rattle.tables.specs.Words.{Words}
-use Rattle.bins.specs.InWords.{wordsOf}
+use Rattle.records.specs.InWords.{wordsOf}
 use Rattle.offset_allocator.specs.declared.head.Head.{Head}
 
 abbrev pub headWords : Head → (nodes free-nodes : List ℕ) → Words

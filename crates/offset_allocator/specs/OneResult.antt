@@ -4,9 +4,8 @@ use mathlib.Core.Path.{_≡_}
 use mathlib.Core.List.{List}
 use Prim.Native.Nat.{ℕ}
 use Rattle.ledger.specs.Calls.{Question, Ask, Call}
-use Rattle.tables.specs.Words.{Words}
+use Rattle.tables.specs.Words.{Words, Edition}
 use Rattle.tables.specs.Setup.{Lent}
-use Rattle.tables.specs.Calls.{edition32}
 use Rattle.tables.specs.Promise.{Promise, SetupPromise}
 use Rattle.audit_words.specs.Promise.{AuditPromise}
 use Rattle.answers.specs.declared.StartAnswer.{StartAnswer}
@@ -17,8 +16,8 @@ use Rattle.answers.specs.declared.ReportAnswer.{ReportAnswer}
 use Rattle.answers.specs.declared.FullAnswer.{FullAnswer}
 use Rattle.answers.specs.declared.AuditAnswer.{AuditAnswer}
 use Rattle.answers.specs.Answers.{startSays, takeSays, backSays, sizeSays, reportSays, fullSays, AllPlaces, FiguresOfZero, auditSays}
-use Rattle.bins.specs.declared.totals.Totals.{Totals}
-use Rattle.bins.specs.InWords.{wordsOf}
+use Rattle.records.specs.declared.totals.Totals.{Totals}
+use Rattle.records.specs.InWords.{wordsOf}
 use Rattle.offset_allocator.specs.declared.head.Head.{Head}
 use Rattle.offset_allocator.specs.HeadWords.{headWords}
 
@@ -46,21 +45,21 @@ in-place = record { Left = InPlace; words = λ v. wordsOf (v .totals) (v .binInd
 abbrev pub by-value : Form
 by-value = record { Left = ByValue; words = λ v. headWords (v .head) (v .nodes) (v .pile) }
 
-pub record OneResult (F : Form) : Type 0 where
-  pub of-setup : (size count : ℕ) (lent : Lent) (a b : StartAnswer) (v u : F .Left) → SetupPromise edition32 size count lent (F .words v) (startSays a)
-      → SetupPromise edition32 size count lent (F .words u) (startSays b) → (a ≡ b) × (v ≡ u)
-  pub of-reset : (c : Call) (w : Words) (a b : StartAnswer) (v u : F .Left) → Promise edition32 c w (F .words v) (startSays a)
-      → Promise edition32 c w (F .words u) (startSays b) → (a ≡ b) × (v ≡ u)
-  pub of-take : (c : Call) (w : Words) (a b : TakeAnswer) (v u : F .Left) → Promise edition32 c w (F .words v) (takeSays a)
-      → Promise edition32 c w (F .words u) (takeSays b) → (a ≡ b) × (v ≡ u)
-  pub of-back : (c : Call) (w : Words) (a b : BackAnswer) (v u : F .Left) → Promise edition32 c w (F .words v) (backSays a)
-      → Promise edition32 c w (F .words u) (backSays b) → (a ≡ b) × (v ≡ u)
+pub record OneResult (E : Edition) (F : Form) : Type 0 where
+  pub of-setup : (size count : ℕ) (lent : Lent) (a b : StartAnswer) (v u : F .Left) → SetupPromise E size count lent (F .words v) (startSays a)
+      → SetupPromise E size count lent (F .words u) (startSays b) → (a ≡ b) × (v ≡ u)
+  pub of-reset : (c : Call) (w : Words) (a b : StartAnswer) (v u : F .Left) → Promise E c w (F .words v) (startSays a)
+      → Promise E c w (F .words u) (startSays b) → (a ≡ b) × (v ≡ u)
+  pub of-take : (c : Call) (w : Words) (a b : TakeAnswer) (v u : F .Left) → Promise E c w (F .words v) (takeSays a)
+      → Promise E c w (F .words u) (takeSays b) → (a ≡ b) × (v ≡ u)
+  pub of-back : (c : Call) (w : Words) (a b : BackAnswer) (v u : F .Left) → Promise E c w (F .words v) (backSays a)
+      → Promise E c w (F .words u) (backSays b) → (a ≡ b) × (v ≡ u)
   -- the questions and the audit leave what they were lent, but for the audit's scratch
-  pub of-size : (q : Question) (w : Words) (a b : SizeAnswer) → Promise edition32 (Ask q) w w (sizeSays a) → Promise edition32 (Ask q) w w (sizeSays b)
+  pub of-size : (q : Question) (w : Words) (a b : SizeAnswer) → Promise E (Ask q) w w (sizeSays a) → Promise E (Ask q) w w (sizeSays b)
       → a ≡ b
-  pub of-report : (q : Question) (w : Words) (a b : ReportAnswer) → Promise edition32 (Ask q) w w (reportSays a)
-      → Promise edition32 (Ask q) w w (reportSays b) → a ≡ b
+  pub of-report : (q : Question) (w : Words) (a b : ReportAnswer) → Promise E (Ask q) w w (reportSays a)
+      → Promise E (Ask q) w w (reportSays b) → a ≡ b
   pub of-full : (q : Question) (w : Words) (a b : FullAnswer) → AllPlaces a → AllPlaces b → FiguresOfZero a → FiguresOfZero b
-      → Promise edition32 (Ask q) w w (fullSays a) → Promise edition32 (Ask q) w w (fullSays b) → a ≡ b
-  pub of-audit : (w : Words) (scratch left other : List ℕ) (a b : AuditAnswer) → AuditPromise edition32 w scratch left (auditSays a)
-      → AuditPromise edition32 w scratch other (auditSays b) → (a ≡ b) × (left ≡ other)
+      → Promise E (Ask q) w w (fullSays a) → Promise E (Ask q) w w (fullSays b) → a ≡ b
+  pub of-audit : (w : Words) (scratch left other : List ℕ) (a b : AuditAnswer) → AuditPromise E w scratch left (auditSays a)
+      → AuditPromise E w scratch other (auditSays b) → (a ≡ b) × (left ≡ other)

@@ -7,7 +7,6 @@ ghost use Rattle.answers.specs.Answers.{takeSays};
 ghost use Rattle.offset_allocator.specs.HeadWords.{headWords};
 use crate::head::Head;
 use answers::TakeAnswer;
-use bins::totals::Totals;
 use small_float::Size;
 
 pub struct Allocated {
@@ -27,13 +26,7 @@ impl Head {
         let mut used_bins = self.used_bins;
         let kept = self.totals;
         // In a place of their own: lent where they stand, they would keep the compiler from holding the head in parts (docs/SPEED.md).
-        let t = Totals {
-            size: kept.size,
-            max_allocs: kept.max_allocs,
-            free_storage: kept.free_storage,
-            free_offset: kept.free_offset,
-            used_bins_top: kept.used_bins_top,
-        };
+        let t = kept.copied();
         let taken = taking::allocate(t, size, &mut bin_indices, &mut used_bins, nodes, free_nodes);
         let answer = taken.answer;
         let totals = taken.totals;

@@ -6,9 +6,8 @@ ghost use Rattle.answers.specs.Asked.{tokenOf};
 ghost use Rattle.answers.specs.Answers.{backSays};
 ghost use Rattle.offset_allocator.specs.HeadWords.{headWords};
 use crate::head::Head;
+use answers::Allocation;
 use answers::BackAnswer;
-use answers::Handle;
-use bins::totals::Totals;
 
 pub struct Freed {
     pub answer: BackAnswer,
@@ -17,8 +16,8 @@ pub struct Freed {
 
 impl Head {
     // A span goes back, or why not.
-    pub fn free(self, handle: Handle, nodes: &mut [u32], free_nodes: &mut [u32]) -> Freed
-        ensures { λ a. ⌜ Promise edition32 (HandBack (tokenOf handle))
+    pub fn free(self, span: Allocation, nodes: &mut [u32], free_nodes: &mut [u32]) -> Freed
+        ensures { λ a. ⌜ Promise edition32 (HandBack (tokenOf span))
             (headWords self (now (nodes .entry)) (now («free_nodes» .entry)))
             (headWords (a .head) (now (nodes .exit)) (now («free_nodes» .exit)))
             (backSays (a .answer)) ⌝ }
@@ -27,21 +26,8 @@ impl Head {
         let mut used_bins = self.used_bins;
         let kept = self.totals;
         // In a place of their own: lent where they stand, they would keep the compiler from holding the head in parts (docs/SPEED.md).
-        let t = Totals {
-            size: kept.size,
-            max_allocs: kept.max_allocs,
-            free_storage: kept.free_storage,
-            free_offset: kept.free_offset,
-            used_bins_top: kept.used_bins_top,
-        };
-        let returned = giving::free(
-            t,
-            handle,
-            &mut bin_indices,
-            &mut used_bins,
-            nodes,
-            free_nodes,
-        );
+        let t = kept.copied();
+        let returned = giving::free(t, span, &mut bin_indices, &mut used_bins, nodes, free_nodes);
         let answer = returned.answer;
         let totals = returned.totals;
         let head = Head {

@@ -1,5 +1,5 @@
 // The head record: all that an allocator keeps besides its two lent tables.
-use bins::totals::Totals;
+use records::totals::Totals;
 
 pub struct Head {
     pub totals: Totals,

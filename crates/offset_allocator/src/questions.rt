@@ -5,20 +5,20 @@ ghost use Rattle.answers.specs.Answers.{sizeSays, reportSays, fullSays, Figures
 ghost use Rattle.asking.specs.Answers.{Asked};
 ghost use Rattle.offset_allocator.specs.HeadWords.{headWords};
 use crate::head::Head;
+use answers::Allocation;
 use answers::FullAnswer;
-use answers::Handle;
 use answers::ReportAnswer;
 use answers::SizeAnswer;
 
 impl Head {
     // The length of a live span.
-    pub fn allocation_size(self, handle: Handle, nodes: &[u32], free_nodes: &[u32]) -> SizeAnswer
-        ensures { λ a. ⌜ Asked (sizeSays a) (SizeOf (tokenOf handle)) (headWords self (now (nodes .entry)) (now («free_nodes» .entry))) ⌝ }
+    pub fn allocation_size(self, span: Allocation, nodes: &[u32], free_nodes: &[u32]) -> SizeAnswer
+        ensures { λ a. ⌜ Asked (sizeSays a) (SizeOf (tokenOf span)) (headWords self (now (nodes .entry)) (now («free_nodes» .entry))) ⌝ }
     {
         let t = self.totals;
         let bin_indices = self.bin_indices;
         let used_bins = self.used_bins;
-        asking::allocation_size(t, handle, &bin_indices, &used_bins, nodes, free_nodes)
+        asking::allocation_size(t, span, &bin_indices, &used_bins, nodes, free_nodes)
     }
 
     // The sum of the free lengths, and the value of the highest class that holds a region; 0 and 0 with one spare record.

@@ -1,8 +1,7 @@
 -- What can be said of lists holds. Assumes nothing.
 use Rattle.replay.specs.Facts.{none, number-more, ListFacts}
 use Rattle.replay.proofs.Reading.{row-read}
-use Rattle.replay.proofs.Judging.{row-judged, replay-reads}
-use Rattle.replay.proofs.Agreeing.{agrees-only, listed-only}
+use Rattle.replay.proofs.JudgedOnce.{row-judged, replay-reads}
 use Rattle.replay.proofs.Adding.{adds-up}
 use Rattle.replay.proofs.Writing.{number-written, row-written, any-digits, adds-up-exactly, hides-none, names-none}
 
@@ -18,8 +17,6 @@ list-facts = record {
   may-be-more = λ text ns number n p q fits. number-more p q fits;
   replay-reads = replay-reads;
   row-judged = row-judged;
-  agrees-only = agrees-only;
-  listed-only = listed-only;
   adds-up-exactly = adds-up-exactly;
   hides-none = hides-none;
   names-none = names-none;

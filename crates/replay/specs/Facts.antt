@@ -1,21 +1,17 @@
 -- What the definitions beside this file give a reader to rely on: a row that is written is read, and judged if it is one of classes; every row of
--- numbers can be written; a row of the list of runs agrees only with its own letter and last two numbers; and the tally of a list of classes adds up.
--- One record, which proofs/Facts.antt makes. Assumes nothing.
+-- numbers can be written; and the tally of a list of classes adds up. One record, which proofs/Facts.antt makes. Assumes nothing.
 use Prim.Native.Nat.{ℕ, _+_, _*_, _^_, _≤_, _<_}
 use mathlib.Core.Path.{_≡_}
-use mathlib.Core.Logic.{_↔_, _⊎_}
+use mathlib.Core.Logic.{_↔_}
 use mathlib.Core.Bool.{true}
 use mathlib.Core.List.{List, [], _∷_, _++_}
 use lib.ListN.{length, getD}
 use Rattle.replay.specs.declared.rows.State.the-variants.{Within}
 use Rattle.replay.specs.declared.rows.Reader.{Reader}
 use Rattle.replay.specs.declared.tally.Tally.{Tally}
-use Rattle.replay.specs.declared.tally.Verdict.the-variants.{Agrees, Listed}
-use Rattle.replay.specs.declared.calls.Said.{Said}
 use Rattle.replay.specs.declared.classes.Replay.{Replay}
 use Rattle.replay.specs.Rows.{fresh, ended, fedAll, endsWell}
 use Rattle.replay.specs.Tally.{counted}
-use Rattle.replay.specs.Calls.{callVerdict}
 use Rattle.replay.specs.Verdicts.{rowVerdict}
 use Rattle.replay.specs.Replay.{noBytes, afterBytes}
 
@@ -94,11 +90,6 @@ pub record ListFacts : Type 0 where
       → length ns ≤ 4
       → afterBytes p (rowText letter text)
       ≡ record { reader = rowRead letter ns; tally = counted (p .tally) (rowVerdict (rowRead letter ns)) }
-  -- a row of the list of runs agrees with one letter and two numbers alone
-  pub agrees-only : (r : Reader) (s : Said) → callVerdict r s ≡ Agrees → (r .letter ≡ s .letter) × (r .c ≡ s .c) × (r .d ≡ s .d)
-  -- and shows a listed difference with its own letter alone: u, or b with its own number
-  pub listed-only : (r : Reader) (s : Said) → callVerdict r s ≡ Listed
-      → (r .letter ≡ s .letter) × (r .c ≡ s .c) × ((r .letter ≡ 117) ⊎ ((r .letter ≡ 98) × (r .d ≡ s .d)))
   -- what a tally that adds up says of its counters: neither less nor more
   pub adds-up-exactly : (t : Tally) → AddsUp t ↔ ((t .agreed + t .listed + t .other ≡ t .rows) × ((t .first ≡ 0) ↔ (t .other ≡ 0)))
   -- a tally that adds up and names no row hides none: all its rows agreed or are listed; and where they all do, it names none

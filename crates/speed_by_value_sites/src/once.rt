@@ -1,4 +1,5 @@
 // The second place where a span is taken and goes back.
+use answers::Allocation;
 use answers::Handle;
 use offset_allocator::head::Head;
 use small_float::Size;
@@ -11,7 +12,12 @@ pub fn drive(size: u32, records: u32, length: u32, handle: u32) -> u32 {
     let fresh = started.head;
     let taken = fresh.allocate(Size(length), &mut nodes, &free_nodes);
     let head = taken.head;
-    let freed = head.free(Handle(handle), &mut nodes, &mut free_nodes);
+    // the one span of a fresh store starts at 0
+    let span = Allocation {
+        offset: 0,
+        metadata: Handle(handle),
+    };
+    let freed = head.free(span, &mut nodes, &mut free_nodes);
     let answer = freed.answer;
     answer.number()
 }

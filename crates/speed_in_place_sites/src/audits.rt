@@ -1,8 +1,9 @@
 // The audit beside a setup of the same size: 131,072 records, half of them with a live span. Here is the program's second place where a span is
 // taken, and where one goes back.
+use answers::Allocation;
 use answers::AuditAnswer;
 use answers::Handle;
-use bins::totals::Totals;
+use records::totals::Totals;
 use small_float::Size;
 
 const STORE: u32 = 4294967295;
@@ -15,6 +16,8 @@ const LAST: u32 = 65536;
 
 const LENGTH: u32 = 1000;
 
+const LAST_STARTS: u32 = LAST * LENGTH;
+
 // So many setups, one after the other; the scalars that the last one leaves.
 fn set_up(
     times: u32,
@@ -23,13 +26,7 @@ fn set_up(
     nodes: &mut [u32; 1048576],
     free_nodes: &mut [u32; 131072],
 ) -> Totals {
-    let mut t = Totals {
-        size: 0,
-        max_allocs: 0,
-        free_storage: 0,
-        free_offset: 0,
-        used_bins_top: 0,
-    };
+    let mut t = Totals::zeros();
     let mut i = 0u32;
     while i < times {
         i += 1;
@@ -61,7 +58,11 @@ fn take_spans(
         let taken = taking::allocate(t, Size(LENGTH), bin_indices, used_bins, nodes, free_nodes);
         t = taken.totals;
     }
-    let returned = giving::free(t, Handle(LAST), bin_indices, used_bins, nodes, free_nodes);
+    let last = Allocation {
+        offset: LAST_STARTS,
+        metadata: Handle(LAST),
+    };
+    let returned = giving::free(t, last, bin_indices, used_bins, nodes, free_nodes);
     returned.totals
 }
 

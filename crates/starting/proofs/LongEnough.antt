@@ -4,7 +4,6 @@ use mathlib.Core.Logic.{inl, inr}
 use Prim.Native.Nat.{ℕ, _≤_}
 use native.Mathlib.Omega.{arith}
 use Rattle.tables.specs.Words.{Edition}
-use Rattle.tables.specs.Calls.{edition32}
 use Rattle.tables.specs.Claims.{BadCount}
 use Rattle.answers.proofs.Numbers.{number-means}
 use Rattle.starting.specs.declared.lengths.Lengths.{Lengths}
@@ -19,15 +18,16 @@ same-lengths count l m N M = λ i. record {
   scratch = (N .scratch-needed ∙ sym (M .scratch-needed)) i;
 }
 
-not-both : (count : ℕ) → (2 ≤ count) × (count ≤ edition32 .limit) → BadCount edition32 count → ⊥
-not-both count good (inl h) = omega (arith, good .0)
-not-both count good (inr h) = omega (arith, good .1)
+module _ (E : Edition) (count : ℕ) where
+  not-both : (2 ≤ count) × (count ≤ E .limit) → BadCount E count → ⊥
+  not-both good (inl h) = omega (arith, good .0)
+  not-both good (inr h) = omega (arith, good .1)
 
-one-answer : (count : ℕ) (a b : LengthsAnswer) → LengthsFor count a → LengthsFor count b → a ≡ b
-one-answer count (Needs l) (Needs m) N M = ap Needs (same-lengths count l m (N .1) (M .1))
-one-answer count (Needs l) (Refused why) N M = absurd (not-both count (N .0) (M .0))
-one-answer count (Refused why) (Needs m) N M = absurd (not-both count (M .0) (N .0))
-one-answer count (Refused why) (Refused other) N M = ap Refused (number-means .none-shared why other (N .1 ∙ sym (M .1)))
+  one-answer : (a b : LengthsAnswer) → LengthsFor E count a → LengthsFor E count b → a ≡ b
+  one-answer (Needs l) (Needs m) N M = ap Needs (same-lengths count l m (N .1) (M .1))
+  one-answer (Needs l) (Refused why) N M = absurd (not-both (N .0) (M .0))
+  one-answer (Refused why) (Needs m) N M = absurd (not-both (M .0) (N .0))
+  one-answer (Refused why) (Refused other) N M = ap Refused (number-means .none-shared why other (N .1 ∙ sym (M .1)))
 
 pub length-facts : (E : Edition) → LengthFacts E
 length-facts E = record {
@@ -40,5 +40,5 @@ length-facts E = record {
       pile-room = omega (arith, N .pile-needed, p .1);
     },
   );
-  one-result = one-answer;
+  one-result = one-answer E;
 }

@@ -4,7 +4,7 @@ use Prim.Native.Nat.{ℕ}
 use Rattle.ledger.specs.Ledger.{Answer}
 use Rattle.tables.specs.Words.{Words}
 use Rattle.answers.specs.Answers.{startSays}
-use Rattle.bins.specs.InWords.{wordsOf}
+use Rattle.records.specs.InWords.{wordsOf}
 use Rattle.starting.specs.declared.Started.{Started}
 
 -- the answer, and all the words that the call leaves

@@ -5,7 +5,6 @@ use Prim.Native.Nat.{ℕ, _≤_}
 use Rattle.tables.specs.Layout.{nodesNeeded, pileNeeded}
 use Rattle.tables.specs.Words.{Edition}
 use Rattle.tables.specs.Room.{Room}
-use Rattle.tables.specs.Calls.{edition32}
 use Rattle.tables.specs.Claims.{BadCount}
 use Rattle.answers.specs.Refusals.{numberOf}
 use Rattle.starting.specs.declared.lengths.Lengths.{Lengths}
@@ -19,9 +18,9 @@ pub record Needed (count : ℕ) (l : Lengths) : Type 0 where
   pub scratch-needed : l .scratch ≡ count
 
 -- the lengths for a count within its limits, and refusal 1 for any other
-abbrev pub LengthsFor : ℕ → LengthsAnswer → Type 0
-LengthsFor count (Needs l) = ((2 ≤ count) × (count ≤ edition32 .limit)) × Needed count l
-LengthsFor count (Refused why) = BadCount edition32 count × (numberOf why ≡ 1)
+abbrev pub LengthsFor : Edition → ℕ → LengthsAnswer → Type 0
+LengthsFor E count (Needs l) = ((2 ≤ count) × (count ≤ E .limit)) × Needed count l
+LengthsFor E count (Refused why) = BadCount E count × (numberOf why ≡ 1)
 
 -- what Needed says, from the other side; proofs/LongEnough.antt makes it. Of the scratch the crate that has both, offset_allocator, says the same
 pub record LengthFacts (E : Edition) : Type 0 where
@@ -29,4 +28,4 @@ pub record LengthFacts (E : Edition) : Type 0 where
   pub room-exactly : (count : ℕ) (l : Lengths) → Needed count l → 2 ≤ count → count ≤ E .limit → (nodes pile : ℕ)
       → Room E count nodes pile ↔ ((l .nodes ≤ nodes) × (l .«free_nodes» ≤ pile))
   -- a count has one answer
-  pub one-result : (count : ℕ) (a b : LengthsAnswer) → LengthsFor count a → LengthsFor count b → a ≡ b
+  pub one-result : (count : ℕ) (a b : LengthsAnswer) → LengthsFor E count a → LengthsFor E count b → a ≡ b

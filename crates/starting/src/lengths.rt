@@ -1,7 +1,8 @@
 // How long the lent tables must be for a count of records.
+ghost use Rattle.tables.specs.Calls.{edition32};
 ghost use Rattle.starting.specs.Lengths.{LengthsFor};
 use answers::Refusal;
-use bins::gate;
+use records::gate;
 
 pub struct Lengths {
     pub nodes: usize,
@@ -20,7 +21,7 @@ pub const SCRATCH_WORDS_PER_RECORD: usize = 1;
 
 // The lengths in words; a call refuses a table that is shorter, and neither reads nor writes beyond them.
 pub fn table_lengths(max_allocs: u32) -> LengthsAnswer
-    ensures { λ a. ⌜ LengthsFor «max_allocs» a ⌝ }
+    ensures { λ a. ⌜ LengthsFor edition32 «max_allocs» a ⌝ }
 {
     if max_allocs < 2 {
         return LengthsAnswer::Refused(Refusal::BadCount);

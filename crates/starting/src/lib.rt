@@ -10,18 +10,17 @@ ghost use Rattle.tables.specs.Setup.{fresh, lentOf, zeros};
 ghost use Rattle.tables.specs.Calls.{edition32};
 ghost use Rattle.tables.specs.Promise.{Promise, SetupPromise};
 ghost use Rattle.answers.specs.Refusals.{numberOf};
-ghost use Rattle.bins.specs.InWords.{wordsOf, bound, HasRoom};
+ghost use Rattle.records.specs.InWords.{wordsOf, bound, HasRoom};
 ghost use Rattle.answers.specs.Answers.{startSays};
 ghost use Rattle.starting.specs.Answers.{outcomeOf};
 use answers::Handle;
 use answers::Refusal;
 use answers::StartAnswer;
-use bins::gate::Gate;
-use bins::nodes::NONE;
-use bins::totals::Totals;
+use records::gate::Gate;
+use records::nodes::NONE;
+use records::totals::Totals;
 use small_float::Size;
 
-mod fill;
 pub mod lengths;
 
 pub struct Started {
@@ -34,11 +33,11 @@ pub const DEFAULT_MAX_ALLOCS: u32 = 131072;
 
 // The whole size is one free region, under record 0: nothing is cut before it is asked for.
 fn one_region(
+    t: Totals,
+    size: Size,
     bin_indices: &mut [u32; 256],
     used_bins: &mut [u8; 32],
     nodes: &mut [u32],
-    t: Totals,
-    size: Size,
 ) -> Totals
     requires { ⌜ 1 ≤ t .«max_allocs» ⌝ }
     requires { ⌜ HasRoom (t .«max_allocs») (now nodes) ⌝ }
@@ -68,19 +67,13 @@ fn start_afresh(
     ensures { λ t. ⌜ wordsOf t (now («bin_indices» .exit)) (now («used_bins» .exit)) (now (nodes .exit)) (now («free_nodes» .exit))
         ≡ fresh edition32 size «max_allocs» (now (nodes .entry)) (now («free_nodes» .entry)) ⌝ }
 {
-    fill::clear_bin_indices(bin_indices, NONE);
-    fill::clear_used_bins(used_bins);
-    fill::mark_not_live(nodes, max_allocs);
-    fill::pile_up(free_nodes, max_allocs);
-    let blank = Totals {
-        size: size,
-        max_allocs: max_allocs,
-        free_storage: size,
-        free_offset: max_allocs - 1,
-        used_bins_top: 0,
-    };
-    let t = bins::pile::pop(blank);
-    one_region(bin_indices, used_bins, nodes, t, Size(size))
+    clearing::clear_bin_indices(bin_indices, NONE);
+    clearing::clear_used_bins(used_bins);
+    clearing::mark_not_live(nodes, max_allocs);
+    clearing::pile_up(free_nodes, max_allocs);
+    let blank = Totals::blank(size, max_allocs);
+    let t = records::pile::pop(blank);
+    one_region(t, Size(size), bin_indices, used_bins, nodes)
 }
 
 // A refused setup gives totals of zeros, whose count of 0 makes every later call on them a refusal. It changes nothing that it was lent: the two arrays
@@ -89,13 +82,7 @@ fn leave_all(why: Refusal, bin_indices: &mut [u32; 256], used_bins: &mut [u8; 32
     ensures { λ s. ⌜ ((nodes pile : List ℕ) → outcomeOf s (now («bin_indices» .exit)) (now («used_bins» .exit)) nodes pile
         ≡ (refused (numberOf why), zeros (lentOf (now («bin_indices» .entry)) (now («used_bins» .entry)) nodes pile))) ⌝ }
 {
-    let zeros = Totals {
-        size: 0,
-        max_allocs: 0,
-        free_storage: 0,
-        free_offset: 0,
-        used_bins_top: 0,
-    };
+    let zeros = Totals::zeros();
     Started {
         answer: StartAnswer::Refused(why),
         totals: zeros,
@@ -124,7 +111,7 @@ pub fn with_max_allocs(
         (startSays (s .answer)) ⌝ }
 {
     let units = units_of(size);
-    match bins::gate::test(max_allocs, nodes, free_nodes, Refusal::BadCount) {
+    match records::gate::test(max_allocs, nodes, free_nodes, Refusal::BadCount) {
         Gate::Shut(why) => leave_all(why, bin_indices, used_bins),
         Gate::Open => Started {
             answer: StartAnswer::Done,
@@ -169,7 +156,7 @@ pub fn reset(
         (wordsOf (s .totals) (now («bin_indices» .exit)) (now («used_bins» .exit)) (now (nodes .exit)) (now («free_nodes» .exit)))
         (startSays (s .answer)) ⌝ }
 {
-    match bins::gate::test(t.max_allocs, nodes, free_nodes, Refusal::Unsound) {
+    match records::gate::test(t.max_allocs, nodes, free_nodes, Refusal::Unsound) {
         Gate::Shut(why) => Started {
             answer: StartAnswer::Refused(why),
             totals: t,

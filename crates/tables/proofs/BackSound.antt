@@ -11,14 +11,17 @@ use Rattle.basics.specs.Sum.{one, is, tally}
 use Rattle.basics.proofs.Sums.{tally-le, tally-reverseAux}
 use Rattle.small_float.proofs.Rounding.{down-most}
 use Rattle.ledger.specs.Ledger.{Ledger, Region, live, free, len, freeLen, stands, Answer, done, length-is, by-class, Stacks}
-use Rattle.ledger.specs.Ledger.{handBack, merge, Side, beside}
+use Rattle.ledger.specs.Ledger.{merge, Side, beside}
+use Rattle.ledger.specs.Calls.{Token, HandBack, handsBack, answer}
 use Rattle.ledger.specs.WellFormed.{WellFormed, has}
 use Rattle.ledger.proofs.Places.{Between, sum-at}
 use Rattle.ledger.proofs.Find.{at}
 use Rattle.ledger.proofs.KeptStacks.{stands-le, side-stands}
 use Rattle.ledger.proofs.Records.{all-records}
 use Rattle.ledger.proofs.Cases.{LiveCase, is-live, not-live, live-case}
-use Rattle.ledger.proofs.CallsWell.{hand-back-well}
+use Rattle.ledger.proofs.CallsWell.{keeps-well}
+use Rattle.ledger.proofs.Outcomes.{call-case}
+use Rattle.basics.proofs.Clash.{clash}
 use Rattle.ledger.proofs.ByClass.{class-laws}
 use Rattle.tables.specs.Layout.{neighborPrev, neighborNext, word}
 use Rattle.tables.specs.Words.{Words, Edition, bounds}
@@ -29,7 +32,7 @@ use Rattle.tables.specs.Sound.{Sound}
 use Rattle.tables.proofs.Linked.{last, linked-split}
 use Rattle.tables.proofs.Lines.{recs-append, Chain, reads-at}
 use Rattle.tables.proofs.Place.{Standing, Gap, placed}
-use Rattle.tables.proofs.SoundOf.{standing, sound-from}
+use Rattle.tables.proofs.SoundOf.{standing, headKept, head-of, sound-from}
 use Rattle.tables.proofs.SizeSound.{known-idle, known-live}
 use Rattle.tables.proofs.Sides.{opens, one-owed, SideBefore, side-before, SideAfter, side-after}
 
@@ -45,7 +48,10 @@ side-free [] stacks = refl
 side-free (live n r ∷ rest) stacks = omega arith
 side-free (free n r ∷ rest) stacks = omega arith
 
-module _ (E : Edition) (w : Words) (l : Ledger Stacks) (S : Sound E w l) (r : ℕ) where
+module _ (E : Edition) (w : Words) (l : Ledger Stacks) (S : Sound E w l) (span : Token) where
+  abbrev r : ℕ
+  r = span .number
+
   module _ (n : ℕ) (before after : List Region) (place : Between before (live n r) after (l .line)) where
     -- ---- the two sides
     reads : Reads (w .nodes) 0 (reverse before) × Reads (w .nodes) (0 + tally len (reverse before)) (live n r ∷ after)
@@ -135,10 +141,11 @@ module _ (E : Edition) (w : Words) (l : Ledger Stacks) (S : Sound E w l) (r : �
       total = w .freeStorage + reads .1 .1 i;
     }
 
-    module _ (outcome : handBack by-class r l ≡ (done, merge by-class before n r after l)) where
+    module _ (outcome : handsBack by-class span l ≡ (done, merge by-class before n r after l)) where
       next-well : WellFormed by-class (w .size) (w .count) (merge by-class before n r after l)
       next-well = subst (λ (a : Answer × Ledger Stacks). WellFormed by-class (w .size) (w .count) (a .1)) outcome
-          (hand-back-well by-class class-laws (w .size) (w .count) r l (S .well))
+          (unfold answer in keeps-well by-class class-laws (w .size) (w .count) l (S .well)
+          (call-case by-class class-laws (w .size) (w .count) (S .well) (HandBack span)) (λ e. clash (cc)))
 
       -- its numbers are within their limits, the ledger after it being in order
       next-sum : (f : Region → ℕ)
@@ -167,10 +174,10 @@ module _ (E : Edition) (w : Words) (l : Ledger Stacks) (S : Sound E w l) (r : �
         one-owed after (b-side .index),
       )
 
-      plan-is : planBack w r ≡ BackPlan.merge p x (opens before) (opens after) merged
+      plan-is : planBack w span ≡ BackPlan.merge p x (opens before) (opens after) merged
       plan-is = read ∙ ap (planMerged w p x (opens before) (opens after)) merged-is ∙ passed
         where
-          read : planBack w r ≡ planMerged w p x (opens before) (opens after) (mergedOf w r p x (opens before) (opens after))
+          read : planBack w span ≡ planMerged w p x (opens before) (opens after) (mergedOf w r p x (opens before) (opens after))
           read = unfold planBack in rw (known-live E w l S r place, chain .1 .0, chain .1 .1, B .free-is, A .free-is)
 
           passed : planMerged w p x (opens before) (opens after) merged ≡ BackPlan.merge p x (opens before) (opens after) merged
@@ -181,26 +188,27 @@ module _ (E : Edition) (w : Words) (l : Ledger Stacks) (S : Sound E w l) (r : �
           )
 
       -- ---- and the words after it stand for the ledger after it
-      drop-size : (t : Bool) (q : ℕ) (u : Words) → dropIf (bounds E w) t q u .size ≡ u .size
+      drop-kept : (t : Bool) (q : ℕ) (u : Words) → dropIf (bounds E w) t q u ≡ headKept u (dropIf (bounds E w) t q u)
       unfolding pushPile unlink unlinkAt
-      drop-size true q u = refl
-      drop-size false q u = refl
-
-      drop-count : (t : Bool) (q : ℕ) (u : Words) → dropIf (bounds E w) t q u .count ≡ u .count
-      unfolding pushPile unlink unlinkAt
-      drop-count true q u = refl
-      drop-count false q u = refl
+      drop-kept true q u = refl
+      drop-kept false q u = refl
 
       abbrev u : Words
       u = dropIf (bounds E w) (opens after) x v
 
+      u-kept : u ≡ headKept w u
+      u-kept = drop-kept (opens after) x v ∙ ap (λ (z : Words). headKept z u) (drop-kept (opens before) p w)
+
+      abbrev z : Words
+      z = insert (bounds E w) u whole (merged .start) r (merged .before) (merged .after)
+
+      z-kept : z ≡ headKept w z
+      unfolding insert insertAt
+      z-kept = ap (λ (y : Words). headKept y z) u-kept
+
       merging-sound : Sound E (merging (bounds E w) w r p x (opens before) (opens after) merged) (merge by-class before n r after l)
       unfolding merging merge
-      merging-sound = sound-from E (insert (bounds E w) u whole (merged .start) r (merged .before) (merged .after)) (w .freeStorage + n)
-          (merge by-class before n r after l) (w .size) (w .count)
-          (unfold insert insertAt in drop-size (opens after) x v ∙ drop-size (opens before) p w)
-          (unfold insert insertAt in drop-count (opens after) x v ∙ drop-count (opens before) p w)
-          (S .room .tables .count-low) (S .room .tables .count-high) (S .room .of-head .size-fits) next-well
+      merging-sound = sound-from E w z (w .freeStorage + n) (merge by-class before n r after l) (head-of S) z-kept next-well
           (rw (reverseAux-eq (b-side .rest) (free whole r ∷ a-side .rest))
           (placed (bounds E w) u (reverse (b-side .rest)) (a-side .rest) (a-side .index)
           (a-side .owed ++ (b-side .owed ++ l .pile))
@@ -209,12 +217,12 @@ module _ (E : Edition) (w : Words) (l : Ledger Stacks) (S : Sound E w l) (r : �
           total-is
 
   -- ---- the call
-  pub back-sound : (doBack E w r (planBack w r) .0 ≡ handBack by-class r l .0)
-      × Sound E (doBack E w r (planBack w r) .1) (handBack by-class r l .1)
+  pub back-sound : (doBack E w r (planBack w span) .0 ≡ handsBack by-class span l .0)
+      × Sound E (doBack E w r (planBack w span) .1) (handsBack by-class span l .1)
   unfolding doBack
   back-sound = go (live-case by-class (S .well) r)
     where
       go : LiveCase by-class r l
-          → (doBack E w r (planBack w r) .0 ≡ handBack by-class r l .0) × Sound E (doBack E w r (planBack w r) .1) (handBack by-class r l .1)
+          → (doBack E w r (planBack w span) .0 ≡ handsBack by-class span l .0) × Sound E (doBack E w r (planBack w span) .1) (handsBack by-class span l .1)
       go (is-live n before after place e q) = rw (plan-is n before after place e, e) (refl, merging-sound n before after place e)
-      go (not-live h e q) = let idle : planBack w r ≡ stop 5 = unfold planBack in rw (known-idle E w l S r h) in rw (idle, e) (refl, S)
+      go (not-live h e q) = let idle : planBack w span ≡ stop 5 = unfold planBack in rw (known-idle E w l S r h) in rw (idle, e) (refl, S)

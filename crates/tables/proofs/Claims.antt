@@ -12,7 +12,7 @@ use Rattle.tables.proofs.Circular.{circular-6, circular-exactly}
 use Rattle.tables.proofs.Search.{search-finds, highest-found}
 use Rattle.tables.proofs.SetupSound.{setup-sound, reset-sound}
 use Rattle.tables.proofs.OneLedger.{one-ledger}
-use Rattle.tables.proofs.Runs.{call-sound, never-6, alike, demand-2, demand-3}
+use Rattle.tables.proofs.OverRuns.{call-sound, never-6, alike, demand-2, demand-3}
 
 pub claims : (E : Edition) → Claims E
 claims E = record {

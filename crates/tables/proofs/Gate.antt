@@ -1,16 +1,18 @@
--- The gate, exactly: `bad` for a count out of its limits, then 2 for a table too short, otherwise open. Assumes nothing.
-use mathlib.Core.Path.{_≡_, refl, _∙_}
+-- The gate, exactly: `bad` for a count out of its limits, then 2 for a table too short, otherwise open; and what it means for a call and for
+-- a setup. Assumes nothing.
+use mathlib.Core.Path.{_≡_, refl, sym, _∙_}
 use mathlib.Core.Logic.{_⊎_, inl, inr}
 use Prim.Native.Nat.{ℕ, zero, suc, _<_, _≤_}
 use native.Mathlib.Omega.{arith}
 use lib.ListN.{length}
 use borrow.Author.Tests.{le-ltb}
 use Rattle.basics.proofs.Decided.{Below, below, beyond, below?}
-use Rattle.ledger.specs.Ledger.{Answer, refused}
+use Rattle.ledger.specs.Ledger.{Answer, done, refused}
 use Rattle.ledger.specs.Calls.{Call}
 use Rattle.tables.specs.Layout.{nodesNeeded, pileNeeded}
 use Rattle.tables.specs.Words.{Words, Edition}
 use Rattle.tables.specs.Gate.{gate, setupGate, gateOf, gated}
+use Rattle.tables.specs.Setup.{Lent, fresh, zeros, setupWords}
 use Rattle.tables.specs.Calls.{behind, answerWords}
 use Rattle.tables.specs.Room.{Room}
 use Rattle.tables.specs.Claims.{BadCount, TooShort, TooLarge}
@@ -115,23 +117,43 @@ setup-has-room E size count nodes pile z = elim (setup-case E size count nodes p
   | accepted f h e ↦ h
 ]
 
--- ---- behind the gate
+-- ---- behind a gate, whatever is lent: open, the outcome is what lies behind; shut, it is the gate's number and what was lent as it came
 pub gated-open : {Lent : Type 0} (g : ℕ) (w : Lent) (o : Answer × Lent) → g ≡ 0 → gated g w o ≡ o
 unfolding gated
 gated-open zero w o e = refl
 gated-open (suc g) w o e = absurd (omega arith)
 
-pub gated-shut : {Lent : Type 0} (g k : ℕ) (w : Lent) (o : Answer × Lent) → g ≡ suc k → gated g w o ≡ (refused (suc k), w)
+pub gated-shut : {Lent : Type 0} (g k : ℕ) (w : Lent) (o : Answer × Lent) → 1 ≤ k → g ≡ k → gated g w o ≡ (refused k, w)
 unfolding gated
-gated-shut zero k w o e = absurd (omega arith)
-gated-shut (suc g) k w o e = λ i. (refused (e i), w)
+gated-shut zero k w o h e = absurd (omega arith)
+gated-shut (suc g) k w o h e = λ i. (refused (e i), w)
 
--- every call stands behind the gate
-pub call-shut : (E : Edition) (c : Call) (w : Words) (k : ℕ) → gateOf E w ≡ suc k → answerWords E c w ≡ (refused (suc k), w)
+-- every call stands behind the same gate: shut out by it
+pub call-shut : (E : Edition) (c : Call) (w : Words) {k : ℕ} → 1 ≤ k → gateOf E w ≡ k → (refused k, w) ≡ answerWords E c w
 unfolding answerWords
-call-shut E c w k e = gated-shut (gateOf E w) k w (behind E c w) e
+call-shut E c w {k} h e = sym (gated-shut (gateOf E w) k w (behind E c w) h e)
 
--- and where there is room it is what lies behind
+-- or let in
+pub let-in : (E : Edition) (c : Call) (w : Words) {o : Answer × Words} → gateOf E w ≡ 0 → o ≡ behind E c w → o ≡ answerWords E c w
+unfolding answerWords
+let-in E c w g e = e ∙ sym (gated-open (gateOf E w) w (behind E c w) g)
+
+-- as it is where there is room
 pub call-open : (E : Edition) (c : Call) (w : Words) → Room E (w .count) (length (w .nodes)) (length (w .pile)) → answerWords E c w ≡ behind E c w
-unfolding answerWords
-call-open E c w room = gated-open (gateOf E w) w (behind E c w) (room-opens-gate E w room)
+call-open E c w room = sym (let-in E c w (room-opens-gate E w room) refl)
+
+-- a setup stands behind its own
+module _ (E : Edition) (size count : ℕ) (lent : Lent) where
+  abbrev its-gate : ℕ
+  its-gate = setupGate E size count (length (lent .nodes)) (length (lent .pile))
+
+  abbrev started : Answer × Words
+  started = (done, fresh E size count (lent .nodes) (lent .pile))
+
+  pub setup-shut : {k : ℕ} → 1 ≤ k → its-gate ≡ k → (refused k, zeros lent) ≡ setupWords E size count lent
+  unfolding setupWords
+  setup-shut {k} h e = sym (gated-shut its-gate k (zeros lent) started h e)
+
+  pub setup-let-in : {o : Answer × Words} → its-gate ≡ 0 → o ≡ started → o ≡ setupWords E size count lent
+  unfolding setupWords
+  setup-let-in g e = e ∙ sym (gated-open its-gate (zeros lent) started g)

@@ -15,10 +15,10 @@ use borrow.Author.Tests.{lt-ltb}
 use Rattle.basics.proofs.Decided.{below, beyond, below?}
 use Rattle.small_float.specs.Class.{up}
 use Rattle.ledger.specs.Ledger.{Answer, done, refused, setup, by-class}
-use Rattle.ledger.specs.Calls.{Request, Token, Question, SizeOf, Report, FullReport, Call, Take, HandBack, Reset, Ask, answer, end}
+use Rattle.ledger.specs.Calls.{Request, Token, Question, Call, Take, HandBack, Reset, Ask, answer, end}
 use Rattle.ledger.proofs.SmallStores.{small-stores}
 use Rattle.tables.specs.Layout.{neighborPrev, neighborNext, used, word, nodesNeeded, pileNeeded}
-use Rattle.tables.specs.Words.{Words}
+use Rattle.tables.specs.Words.{Words, withTotal, withLists}
 use Rattle.tables.specs.Search.{lowFrom, lowInBin, leafOrAbove, findClass}
 use Rattle.tables.specs.Search as found
 use Rattle.tables.specs.Take.{TakePlan, planRegion, planRecord, planClass, planTake, doTake}
@@ -32,9 +32,10 @@ use Rattle.tables.specs.Examples.{LongEnough, CountRows, GivenBehind, Al
 use Rattle.tables.proofs.MaskEnds.{low-past}
 use Rattle.tables.proofs.PlanEnds.{either}
 use Rattle.tables.proofs.Gate.{call-open}
+use Rattle.tables.proofs.Questions.{bare, two, room, all-zero, told-given}
 use Rattle.tables.proofs.Refusals.{setup-1, setup-10, setup-2, setup-done, setup-refused, setup-numbers}
 use Rattle.tables.proofs.Refusals.{call-6, call-2, take-3, back-5, size-5}
-use Rattle.tables.proofs.Runs.{call-sound, demand-2}
+use Rattle.tables.proofs.OverRuns.{call-sound, demand-2}
 
 -- ---- counts
 accepted : (size count : ℕ) (lent : Lent) → size < 2 ^ 32 → 2 ≤ count → count ≤ edition32 .limit → LongEnough count lent
@@ -80,23 +81,6 @@ count-rows = record {
 }
 
 -- ---- numbers
--- scalars over tables of zeros: no record is live, and no class holds anything
-abbrev bare : (count off : ℕ) → (nodes pile : List ℕ) → Words
-bare count off nodes pile =
-    record { size = 0; count = count; freeStorage = 0; freeOffset = off; usedBinsTop = 0; usedBins = []; binIndices = []; nodes = nodes; pile = pile }
-
-abbrev two : ℕ → Words
-two off = bare 2 off (replicate 16 0) (replicate 2 0)
-
-room : (off : ℕ) → Room edition32 2 (length (two off .nodes)) (length (two off .pile))
-room off = record { count-low = omega arith; count-high = omega arith; nodes-room = omega arith; pile-room = omega arith }
-
-all-zero : (n i : ℕ) → getD (replicate {A = ℕ} n 0) i 0 ≡ 0
-all-zero n i = elim (below? i n) [
-  | below l e ↦ getD-replicate {A = ℕ} n i 0 0 l
-  | beyond l e ↦ List·getD-eq-default (replicate {A = ℕ} n 0) 0 {n = i} (omega (arith, length-replicate {A = ℕ} n 0))
-]
-
 not-live : (off r : ℕ) → NotLive (two off) r
 unfolding word
 not-live off r = inr (all-zero 16 (8 * r + used))
@@ -118,42 +102,9 @@ gives-6 : (c : Call) → (w : Words) × (answerWords edition32 c w .0 ≡ refuse
 gives-6 c = (bare 0 0 [] [], ap (λ (o : Answer × Words). o .0) (call-6 edition32 c (bare 0 0 [] []) (inl (omega arith))))
 
 -- ---- 6 behind an open gate
--- with no heads every list begins with record 0, and there comes back to it
-around-6 : answerWords edition32 (Ask FullReport) (two 1) .0 ≡ refused 6
-unfolding answerWords word
-around-6 = refl
-
--- a top bit over a leaf byte of 0
-abbrev top-alone : Words
-top-alone = record {
-  size = 0;
-  count = 2;
-  freeStorage = 0;
-  freeOffset = 1;
-  usedBinsTop = 1;
-  usedBins = [];
-  binIndices = [];
-  nodes = replicate 16 0;
-  pile = replicate 2 0;
-}
-
-report-6 : answerWords edition32 (Ask Report) top-alone .0 ≡ refused 6
-unfolding answerWords leadingZeros
-report-6 = refl
-
 -- class c has its bit, in a store of no units, and its list begins with a region of one
 abbrev no-units : (c : ℕ) → Words
-no-units c = record {
-  size = 0;
-  count = 2;
-  freeStorage = 0;
-  freeOffset = 1;
-  usedBinsTop = 0;
-  usedBins = replicate (c / 8 + 1) (2 ^ (c % 8));
-  binIndices = [];
-  nodes = replicate 16 1;
-  pile = replicate 2 0;
-}
+no-units c = withLists (two 1) 0 (replicate (c / 8 + 1) (2 ^ (c % 8))) [] (replicate 16 1)
 
 bit-found : (c : ℕ) → findClass (no-units c .usedBins) 0 c ≡ found.class-is (8 * (c / 8) + (c % 8 + 0))
 unfolding findClass leafOrAbove lowFrom trailingZeros
@@ -176,17 +127,7 @@ take-6 asked =
 
 -- every record is live, and more is free than there is
 abbrev too-free : (count : ℕ) → Words
-too-free count = record {
-  size = 0;
-  count = count;
-  freeStorage = 1;
-  freeOffset = 1;
-  usedBinsTop = 0;
-  usedBins = [];
-  binIndices = [];
-  nodes = replicate (8 * count) 1;
-  pile = replicate count 0;
-}
+too-free count = withTotal (bare count 1 (replicate (8 * count) 1) (replicate count 0)) 1
 
 too-free-room : (count : ℕ) → 2 ≤ count → count ≤ 131072 → Room edition32 count (length (too-free count .nodes)) (length (too-free count .pile))
 too-free-room count low high = record {
@@ -219,7 +160,7 @@ back-6 : (count : ℕ) (span : Token) → 2 ≤ count → count ≤ 131072 → s
 unfolding behind doBack
 back-6 count span low high h =
     let w = too-free count in
-    let stops : planBack w (span .number) ≡ BackPlan.stop 6
+    let stops : planBack w span ≡ BackPlan.stop 6
     = unfold planBack in rw (all-live count (span .number) h)
     (sides-outside count (span .number) (word (w .nodes) neighborPrev (span .number)) (word (w .nodes) neighborNext (span .number))) in
     ap (λ (o : Answer × Words). o .0) (call-open edition32 (HandBack span) w (too-free-room count low high))
@@ -235,13 +176,10 @@ renumber-behind : (c : Call) {j k : ℕ} → k ≡ j → GivenBehind c j → Giv
 renumber-behind c e x = (x .0, x .1, x .2 ∙ ap refused (sym e))
 
 told-behind : (q : Question) (k : ℕ) → OneOf (mayTell q) k → GivenBehind (Ask q) k
-told-behind (SizeOf span) k (inl e) =
-    renumber-behind (Ask (SizeOf span)) e (two 0, room 0, size-5 edition32 (two 0) span (room 0) .1 (not-live 0 (span .number)))
-told-behind (SizeOf span) k (inr e) = absurd e
-told-behind Report k (inl e) = renumber-behind (Ask Report) e (top-alone, room 1, report-6)
-told-behind Report k (inr e) = absurd e
-told-behind FullReport k (inl e) = renumber-behind (Ask FullReport) e (two 1, room 1, around-6)
-told-behind FullReport k (inr e) = absurd e
+unfolding behind
+told-behind q k e =
+    let x = told-given q k e in
+    (x .0, x .1, ap (λ (o : Answer × Words). o .0) (call-open edition32 (Ask q) (x .0) (x .1)) ∙ x .2)
 
 take-behind : (asked : Request) (k : ℕ) → OneOf (mayGiveBehind (Take asked)) k → GivenBehind (Take asked) k
 take-behind asked k (inl e) = renumber-behind (Take asked) e (two 0, room 0, take-3 edition32 (two 0) asked (room 0) .1 refl)

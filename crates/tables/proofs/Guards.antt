@@ -1,5 +1,5 @@
 -- A plan that does not stop has passed its guards. Assumes nothing.
-use mathlib.Core.Path.{_≡_, refl, subst}
+use mathlib.Core.Path.{_≡_, refl, sym, subst}
 use mathlib.Core.Bool.{Bool, true, false, cond}
 use mathlib.Core.List.{List}
 use Prim.Native.Nat.{ℕ, _+_, _-_, _≤_, _<_}
@@ -10,6 +10,7 @@ use borrow.Author.Tests.{ltb-true}
 use Rattle.basics.specs.Sum.{one}
 use Rattle.basics.proofs.Decided.{Same, same, differ, same?, Below, below, beyond, below?}
 use Rattle.small_float.specs.Class.{up}
+use Rattle.ledger.specs.Calls.{Token}
 use Rattle.tables.specs.Layout.{dataOffset, dataSize, neighborPrev, neighborNext, used, word}
 use Rattle.tables.specs.Words.{Words}
 use Rattle.tables.specs.Search.{Found, class-is, no-class, bad-bits, findClass}
@@ -89,6 +90,9 @@ free-low nodes count q = go (ltb q count) refl
     go true e h = ltb-true q count e
     go false e h = absurd (omega arith)
 
+pub free-below : (nodes : List ℕ) (count q : ℕ) → isFree nodes count q ≡ true → q < count
+free-below nodes count q e = free-low nodes count q (subst (λ (b : Bool). 1 ≤ one b) (sym e) (omega arith))
+
 merged-guards : (w : Words) (r p x : ℕ) (p-free x-free : Bool) (m : Merged) → r < w .count
     → (1 ≤ one p-free → p < w .count) → (1 ≤ one x-free → x < w .count)
     → BackGuards w r (planMerged w p x p-free x-free m)
@@ -110,10 +114,13 @@ merged-guards w r p x p-free x-free m h1 h2 h3 =
       pile-room = c;
     }
 
-pub back-guards : (w : Words) (r : ℕ) → BackGuards w r (planBack w r)
+pub back-guards : (w : Words) (span : Token) → BackGuards w (span .number) (planBack w span)
 unfolding planBack planNeighbours planSides
-back-guards w r = go (isLive (w .nodes) (w .count) r) refl
+back-guards w span = go (isLive (w .nodes) (w .count) (span .number)) refl
   where
+    r : ℕ
+    r = span .number
+
     p : ℕ
     p = word (w .nodes) neighborPrev r
 
@@ -137,7 +144,8 @@ guards-mean = record {
   split-sure = λ w s c r o rest m e.
       let g : GrantGuards w s c r o × SplitGuards w m = subst (λ (plan : TakePlan). TakeGuards w s plan) e (take-guards w s) in
       (g .0 .class-low, g .0 .record-low, g .0 .inside, g .0 .enough, g .0 .spare, g .1 .top-low, g .1 .spare-low);
-  merge-sure = λ w r p x p-free x-free m e.
-      let g : MergeGuards w r p x p-free x-free m = subst (λ (plan : BackPlan). BackGuards w r plan) e (back-guards w r) in
+  merge-sure = λ w span p x p-free x-free m e.
+      let g : MergeGuards w (span .number) p x p-free x-free m
+      = subst (λ (plan : BackPlan). BackGuards w (span .number) plan) e (back-guards w span) in
       (g .record-low, g .before-low, g .after-low, g .length-fits, g .total-fits, g .pile-room);
 }

@@ -36,7 +36,7 @@ module _ (E : Edition) (w : Words) (k : ℕ) where
 behind-kept : (E : Edition) (c : Call) (w : Words) (k : ℕ) → behind E c w .0 ≡ refused k → behind E c w .1 ≡ w
 unfolding behind
 behind-kept E (Take asked) w k e = take-kept E w k (asked .size) (planTake w (asked .size)) e
-behind-kept E (HandBack span) w k e = back-kept E w k (span .number) (planBack w (span .number)) e
+behind-kept E (HandBack span) w k e = back-kept E w k (span .number) (planBack w span) e
 behind-kept E Reset w k e = absurd (done-not-refused k e)
 behind-kept E (Ask q) w k e = refl
 

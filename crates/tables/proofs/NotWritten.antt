@@ -1,5 +1,5 @@
 -- No call writes a word beyond those that its count of records needs; size, count and lengths stay: on any words. Assumes nothing.
-use mathlib.Core.Path.{_≡_, refl, _∙_}
+use mathlib.Core.Path.{refl, _∙_}
 use mathlib.Core.Bool.{Bool, true, false}
 use Prim.Native.Nat.{ℕ, _+_, _-_, _≤_, _<_}
 use native.Mathlib.Omega.{arith}
@@ -22,6 +22,7 @@ use Rattle.tables.specs.Guards.{TakeGuards, BackGuards}
 use Rattle.tables.proofs.Fields.{length-put}
 use Rattle.tables.proofs.Gate.{gate-has-room}
 use Rattle.tables.proofs.Guards.{take-guards, back-guards}
+use Rattle.tables.proofs.Drops.{drop-off}
 use Rattle.tables.proofs.PlanEnds.{gated-ends}
 use Rattle.tables.proofs.Untouched.{put-elsewhere, insert-elsewhere, unlinkAt-elsewhere, wiped-elsewhere, piled-beyond}
 use Rattle.tables.proofs.Untouched.{insert-nodes-length, insert-heads-length, insert-leaves-length}
@@ -156,11 +157,6 @@ take-written E w s (split c r o rest m) g =
     total-kept (w .count) (w .freeStorage - s) (splitting-kept (bounds E w) w s c r (g .0 .record-low) o rest m (g .1 .spare-low))
 
 -- ---- hand back
-drop-off : (K : Bounds) (is-free : Bool) (q : ℕ) (w : Words) → dropIf K is-free q w .freeOffset ≡ w .freeOffset + one is-free
-unfolding pushPile unlink unlinkAt
-drop-off K true q w = refl
-drop-off K false q w = omega arith
-
 drop-kept : (K : Bounds) (is-free : Bool) (q : ℕ) (w : Words) → w .freeOffset + one is-free < K .n → KeptBeyond (K .n) w (dropIf K is-free q w)
 unfolding unlink
 drop-kept K true q w l =
@@ -213,7 +209,7 @@ reset-written E w l =
 behind-written : (E : Edition) (c : Call) (w : Words) → 1 ≤ w .count → KeptBeyond (w .count) w (behind E c w .1)
 unfolding behind
 behind-written E (Take asked) w l = take-written E w (asked .size) (planTake w (asked .size)) (take-guards w (asked .size))
-behind-written E (HandBack span) w l = back-written E w (span .number) (planBack w (span .number)) (back-guards w (span .number))
+behind-written E (HandBack span) w l = back-written E w (span .number) (planBack w span) (back-guards w span)
 behind-written E Reset w l = reset-written E w l
 behind-written E (Ask q) w l = nothing-written (w .count) w
 

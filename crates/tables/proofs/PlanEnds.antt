@@ -12,7 +12,7 @@ use Rattle.tables.specs.Words.{Words}
 use Rattle.tables.specs.Gate.{gated}
 use Rattle.tables.specs.Search.{Found, class-is, no-class, bad-bits, findClass}
 use Rattle.tables.specs.Take.{TakePlan, whole, split, planSpare, planRegion, planRecord, planClass, planTake}
-use Rattle.tables.specs.HandBack.{BackPlan, merge, Merged, isLive, isFree, mergedOf, planMerged, planSides, planNeighbours, planBack}
+use Rattle.tables.specs.HandBack.{BackPlan, merge, Merged, isLive, isFree, mergedOf, planMerged, planSides, planNeighbours}
 
 -- what holds of both arms holds of the choice
 pub either : {A : Type 0} (P : A → Type 0) (t : Bool) {a b : A} → P a → P b → P (cond t a b)
@@ -76,9 +76,3 @@ module _ (w : Words) (r : ℕ) (P : BackPlan → Type 0) (at-6 : P (BackPlan.sto
   neighbours-ends p x =
       merged-ends p x (isFree (w .nodes) (w .count) p) (isFree (w .nodes) (w .count) x)
       (mergedOf w r p x (isFree (w .nodes) (w .count) p) (isFree (w .nodes) (w .count) x))
-
-pub back-ends : (w : Words) (r : ℕ) (P : BackPlan → Type 0) → P (BackPlan.stop 5) → P (BackPlan.stop 6)
-    → ((p x : ℕ) (p-free x-free : Bool) (m : Merged) → P (merge p x p-free x-free m)) → P (planBack w r)
-unfolding planBack
-back-ends w r P at-5 at-6 at-merge = either P (isLive (w .nodes) (w .count) r)
-    (neighbours-ends w r P at-6 at-merge (word (w .nodes) neighborPrev r) (word (w .nodes) neighborNext r)) at-5

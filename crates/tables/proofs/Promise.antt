@@ -11,7 +11,7 @@ use Rattle.tables.specs.Promise.{Promise, SetupPromise, PromiseMeans}
 use Rattle.tables.proofs.Kept.{refused-kept, grant-inside}
 use Rattle.tables.proofs.Refusals.{setup-refused}
 use Rattle.tables.proofs.SetupSound.{setup-sound}
-use Rattle.tables.proofs.Runs.{call-sound}
+use Rattle.tables.proofs.OverRuns.{call-sound}
 
 module _ (E : Edition) (c : Call) (w : Words) {v : Words} {a : Answer} where
   -- the other three parts follow from the first
@@ -36,6 +36,13 @@ module _ (E : Edition) (c : Call) (w : Words) {v : Words} {a : Answer} where
 pub one-outcome : (E : Edition) (c : Call) (w : Words) {u v : Words} {a b : Answer} → Promise E c w u a → Promise E c w v b
     → _≡_ {A = Answer × Words} (a, u) (b, v)
 one-outcome E c w p q = p .exact ∙ sym (q .exact)
+
+module _ (E : Edition) {c : Call} {w u v : Words} {a b : Answer} (p : Promise E c w u a) (q : Promise E c w v b) where
+  pub answers-same : a ≡ b
+  answers-same = ap (λ (x : Answer × Words). x .0) (one-outcome E c w p q)
+
+  pub words-same : u ≡ v
+  words-same = ap (λ (x : Answer × Words). x .1) (one-outcome E c w p q)
 
 -- ---- setup
 pub setup-promise : (E : Edition) (size count : ℕ) (lent : Lent) {v : Words} {a : Answer}

@@ -1,23 +1,26 @@
 -- Each question, in one place: which refusals it can give, that it reads no word beyond those that its count needs, and that on sound words it answers
 -- as the ledger does. A new question has its clauses here and in ledger's file of this name, and in no other proof. Assumes nothing.
-use mathlib.Core.Path.{_≡_, refl, ap}
+use mathlib.Core.Path.{_≡_, refl, sym, ap, _∙_}
 use mathlib.Core.Bool.{Bool, true, false, cond}
 use mathlib.Core.Logic.{_⊎_, inl, inr}
 use mathlib.Core.List.{List, [], _∷_}
 use Prim.Native.Nat.{ℕ, zero, suc, _+_, _*_, _<_}
 use native.Mathlib.Omega.{arith}
 use lib.Dec.{ltb, eqb}
-use lib.ListN.{getD, replicate}
+use lib.Count.{leadingZeros}
+use lib.ListN.{length, getD, replicate, length-replicate, getD-replicate, List·getD-eq-default}
 use Rattle.basics.proofs.Decided.{Below, below, beyond, below?}
 use Rattle.small_float.specs.Class.{classesInUse}
 use Rattle.ledger.specs.Ledger.{Ledger, Stacks, by-class, Answer, granted, done, length-is, reported, classes, refused}
 use Rattle.ledger.specs.Calls.{Token, Question, SizeOf, Report, FullReport, told}
 use Rattle.tables.specs.Layout.{dataSize, binNext, used, word, nodesNeeded, pileNeeded}
-use Rattle.tables.specs.Words.{Words, Edition, withTables}
+use Rattle.tables.specs.Words.{Words, Edition, withLists, withTables, wordsFrom}
 use Rattle.tables.specs.Search.{highBit}
 use Rattle.tables.specs.HandBack.{isLive}
 use Rattle.tables.specs.Questions.{reportClass, reportLeaf, reportTop, reportOf, lengthOf, listLength, noted}
 use Rattle.tables.specs.Questions.{Counts, counts, circular, countFrom, fullAnswer, fullReportOf, toldBy, mayTell}
+use Rattle.tables.specs.Calls.{edition32}
+use Rattle.tables.specs.Room.{Room}
 use Rattle.tables.specs.Reach.{AgreeOn}
 use Rattle.tables.specs.Sound.{Sound}
 use Rattle.tables.specs.Claims.{OneOf}
@@ -130,3 +133,55 @@ unfolding toldBy told
 told-sound E w l S (SizeOf span) = length-is-told E w l S (span .number)
 told-sound E w l S Report = report-is E w l S
 told-sound E w l S FullReport = full-is E w l S
+
+-- ---- that each number is given, on words for which there is room
+-- scalars over tables of zeros: no record is live, and no class holds anything
+abbrev pub bare : (count off : ℕ) → (nodes pile : List ℕ) → Words
+bare count off nodes pile = wordsFrom 0 count 0 off 0 [] [] nodes pile
+
+abbrev pub two : ℕ → Words
+two off = bare 2 off (replicate 16 0) (replicate 2 0)
+
+pub room : (off : ℕ) → Room edition32 2 (length (two off .nodes)) (length (two off .pile))
+room off = record { count-low = omega arith; count-high = omega arith; nodes-room = omega arith; pile-room = omega arith }
+
+pub all-zero : (n i : ℕ) → getD (replicate {A = ℕ} n 0) i 0 ≡ 0
+all-zero n i = elim (below? i n) [
+  | below l e ↦ getD-replicate {A = ℕ} n i 0 0 l
+  | beyond l e ↦ List·getD-eq-default (replicate {A = ℕ} n 0) 0 {n = i} (omega (arith, length-replicate {A = ℕ} n 0))
+]
+
+-- with no heads every list begins with record 0, and there comes back to it
+around-6 : toldBy (two 1) FullReport ≡ refused 6
+unfolding toldBy word
+around-6 = refl
+
+-- a top bit over a leaf byte of 0
+abbrev top-alone : Words
+top-alone = withLists (two 1) 1 [] [] (replicate 16 0)
+
+report-6 : toldBy top-alone Report ≡ refused 6
+unfolding toldBy leadingZeros
+report-6 = refl
+
+size-5 : (span : Token) → toldBy (two 0) (SizeOf span) ≡ refused 5
+unfolding toldBy lengthOf isLive word
+size-5 span = elim (below? (span .number) 2) [
+  | below l e ↦ rw (e, all-zero 16 (8 * span .number + used)) refl
+  | beyond l e ↦ rw e refl
+]
+
+abbrev Shown : Question → (j : ℕ) → Type 0
+Shown q j = (w : Words) × Room edition32 (w .count) (length (w .nodes)) (length (w .pile)) × (toldBy w q ≡ refused j)
+
+shown : (q : Question) {j k : ℕ} → k ≡ j → Shown q j → Shown q k
+shown q e x = (x .0, x .1, x .2 ∙ ap refused (sym e))
+
+pub told-given : (q : Question) (k : ℕ) → OneOf (mayTell q) k
+    → (w : Words) × Room edition32 (w .count) (length (w .nodes)) (length (w .pile)) × (toldBy w q ≡ refused k)
+told-given (SizeOf span) k (inl e) = shown (SizeOf span) e (two 0, room 0, size-5 span)
+told-given (SizeOf span) k (inr e) = absurd e
+told-given Report k (inl e) = shown Report e (top-alone, room 1, report-6)
+told-given Report k (inr e) = absurd e
+told-given FullReport k (inl e) = shown FullReport e (two 1, room 1, around-6)
+told-given FullReport k (inr e) = absurd e

@@ -1,7 +1,7 @@
 -- When setup is refused as 1 and as 2, and every other call as 6 and as 2 before all else, exactly; behind an open gate, when a take gives 3, and a
 -- hand-back and a size query 5; and which numbers a call can give at all: on any words. Assumes nothing.
 use mathlib.Core.Path.{_≡_, refl, sym, ap, subst, _∙_}
-use mathlib.Core.Bool.{true, false, cond}
+use mathlib.Core.Bool.{Bool, true, false, cond}
 use mathlib.Core.Logic.{_↔_, inl, inr, _≢_}
 use mathlib.Core.List.{List, [], _∷_}
 use Prim.Native.Nat.{ℕ, suc, _<_, _≤_}
@@ -17,15 +17,15 @@ use Rattle.tables.specs.Gate.{gate, setupGate, gateOf}
 use Rattle.tables.specs.Setup.{Lent, fresh, zeros, setupWords}
 use Rattle.tables.specs.Search.{Found, findClass}
 use Rattle.tables.specs.Take.{planClass, planTake, doTake}
-use Rattle.tables.specs.HandBack.{isLive, planNeighbours, planBack, doBack}
+use Rattle.tables.specs.HandBack.{BackPlan, merge, Merged, isLive, planNeighbours, planBack, doBack}
 use Rattle.tables.specs.Questions.{lengthOf, toldBy}
 use Rattle.tables.specs.Calls.{behind, answerWords}
 use Rattle.tables.specs.Room.{Room}
 use Rattle.tables.specs.Claims.{BadCount, TooShort, TooLarge, OneOf, mayGive, NotLive, mayGiveBehind}
 use Rattle.tables.proofs.Gate.{bad-count, too-short, open-gate, gated?, room-not-bad, room-not-short, short-not-bad, call-open}
 use Rattle.tables.proofs.Gate.{SetupCase, count-bad, too-large, table-short, accepted, setup-case, large-not-bad, sizes-pass}
-use Rattle.tables.proofs.Gate.{room-opens, gated-open, gated-shut, call-shut}
-use Rattle.tables.proofs.PlanEnds.{class-ends, take-ends, neighbours-ends, back-ends}
+use Rattle.tables.proofs.Gate.{room-opens, call-shut, setup-shut, setup-let-in}
+use Rattle.tables.proofs.PlanEnds.{class-ends, take-ends, either, neighbours-ends}
 use Rattle.tables.proofs.Questions.{Gives, told-gives, tell-cases}
 
 -- ---- the gate's two refusals
@@ -56,12 +56,10 @@ module _ (E : Edition) (size count : ℕ) (lent : Lent) where
   case-of = setup-case E size count (length (lent .nodes)) (length (lent .pile))
 
   opens : its-gate ≡ 0 → setupWords E size count lent ≡ afresh
-  unfolding setupWords
-  opens e = gated-open its-gate (zeros lent) afresh e
+  opens e = sym (setup-let-in E size count lent e refl)
 
   shut : (k : ℕ) → its-gate ≡ suc k → setupWords E size count lent ≡ (refused (suc k), zeros lent)
-  unfolding setupWords
-  shut k e = gated-shut its-gate k (zeros lent) afresh e
+  shut k e = sym (setup-shut E size count lent (omega arith) e)
 
   pub setup-opens : size ≤ E .greatest → Room E count (length (lent .nodes)) (length (lent .pile)) → setupWords E size count lent ≡ afresh
   setup-opens fits h = opens
@@ -155,16 +153,22 @@ module _ (E : Edition) (size count : ℕ) (lent : Lent) where
 -- ---- every other call
 pub call-6 : (E : Edition) (c : Call) (w : Words) → BadCount E (w .count) → answerWords E c w ≡ (refused 6, w)
 unfolding gateOf
-call-6 E c w h = call-shut E c w 5 (bad-shuts E 6 (w .count) (length (w .nodes)) (length (w .pile)) h)
+call-6 E c w h = sym (call-shut E c w (omega arith) (bad-shuts E 6 (w .count) (length (w .nodes)) (length (w .pile)) h))
 
 pub call-2 : (E : Edition) (c : Call) (w : Words) → TooShort E (w .count) (length (w .nodes)) (length (w .pile))
     → answerWords E c w ≡ (refused 2, w)
 unfolding gateOf
-call-2 E c w h = call-shut E c w 1 (short-shuts E 6 (w .count) (length (w .nodes)) (length (w .pile)) h)
+call-2 E c w h = sym (call-shut E c w (omega arith) (short-shuts E 6 (w .count) (length (w .nodes)) (length (w .pile)) h))
 
 -- ---- which numbers a call gives behind an open gate
 given : (ns : List ℕ) (a : Answer) (k : ℕ) → Gives ns a → a ≡ refused k → OneOf ns k
 given ns a k h e = subst (λ (x : Answer). Gives ns x) e h
+
+back-ends : (w : Words) (span : Token) (P : BackPlan → Type 0) → P (BackPlan.stop 5) → P (BackPlan.stop 6)
+    → ((p x : ℕ) (p-free x-free : Bool) (m : Merged) → P (merge p x p-free x-free m)) → P (planBack w span)
+unfolding planBack
+back-ends w span P at-5 at-6 at-merge = either P (isLive (w .nodes) (w .count) (span .number))
+    (neighbours-ends w (span .number) P at-6 at-merge (word (w .nodes) neighborPrev (span .number)) (word (w .nodes) neighborNext (span .number))) at-5
 
 module _ (E : Edition) (w : Words) where
   -- once there are spares, a take does not give 3
@@ -185,15 +189,15 @@ module _ (E : Edition) (w : Words) where
   neighbours-give r p x =
       neighbours-ends w r (λ b. Gives (6 ∷ []) (doBack E w r b .0)) (inl refl) (λ p x p-free x-free m. tt) p x
 
-  back-gives : (r : ℕ) → Gives (5 ∷ 6 ∷ []) (doBack E w r (planBack w r) .0)
+  back-gives : (span : Token) → Gives (5 ∷ 6 ∷ []) (doBack E w (span .number) (planBack w span) .0)
   unfolding doBack
-  back-gives r =
-      back-ends w r (λ p. Gives (5 ∷ 6 ∷ []) (doBack E w r p .0)) (inl refl) (inr (inl refl)) (λ p x p-free x-free m. tt)
+  back-gives span =
+      back-ends w span (λ p. Gives (5 ∷ 6 ∷ []) (doBack E w (span .number) p .0)) (inl refl) (inr (inl refl)) (λ p x p-free x-free m. tt)
 
   behind-gives : (c : Call) → Gives (mayGiveBehind c) (behind E c w .0)
   unfolding behind
   behind-gives (Take asked) = take-gives (asked .size)
-  behind-gives (HandBack span) = back-gives (span .number)
+  behind-gives (HandBack span) = back-gives span
   behind-gives Reset = tt
   behind-gives (Ask q) = told-gives w q
 
@@ -274,12 +278,13 @@ lives? w r = go (below? r (w .count)) (same? (word (w .nodes) used r) 0)
     go (below l t) (same e z) = dead (inr e) (rw (t, z))
     go (below l t) (differ e z) = alive (neither l e) (rw (t, z))
 
-back-dead-or-alive : (E : Edition) (w : Words) (r : ℕ) → Lives w r → (doBack E w r (planBack w r) .0 ≡ refused 5) ↔ NotLive w r
+back-dead-or-alive : (E : Edition) (w : Words) (span : Token) → Lives w (span .number)
+    → (doBack E w (span .number) (planBack w span) .0 ≡ refused 5) ↔ NotLive w (span .number)
 unfolding planBack doBack
-back-dead-or-alive E w r (dead h t) = (λ a. h, λ x. rw t refl)
-back-dead-or-alive E w r (alive h t) = (
+back-dead-or-alive E w span (dead h t) = (λ a. h, λ x. rw t refl)
+back-dead-or-alive E w span (alive h t) = (
   λ a. absurd (not-5 (given (6 ∷ []) _ 5
-      (neighbours-give E w r (word (w .nodes) neighborPrev r) (word (w .nodes) neighborNext r)) (rw t at a))),
+      (neighbours-give E w (span .number) (word (w .nodes) neighborPrev (span .number)) (word (w .nodes) neighborNext (span .number))) (rw t at a))),
   λ x. absurd (h x),
 )
 
@@ -294,7 +299,7 @@ size-dead-or-alive w r (alive h t) = (
 pub back-5 : (E : Edition) (w : Words) (span : Token) → Room E (w .count) (length (w .nodes)) (length (w .pile))
     → (answerWords E (HandBack span) w .0 ≡ refused 5) ↔ NotLive w (span .number)
 unfolding behind
-back-5 E w span room = rw (call-open E (HandBack span) w room) (back-dead-or-alive E w (span .number) (lives? w (span .number)))
+back-5 E w span room = rw (call-open E (HandBack span) w room) (back-dead-or-alive E w span (lives? w (span .number)))
 
 pub size-5 : (E : Edition) (w : Words) (span : Token) → Room E (w .count) (length (w .nodes)) (length (w .pile))
     → (answerWords E (Ask (SizeOf span)) w .0 ≡ refused 5) ↔ NotLive w (span .number)

@@ -27,7 +27,7 @@ use Rattle.tables.proofs.Steps.{pop-shelf}
 use Rattle.tables.proofs.Refusals.{setup-done, setup-opens}
 use Rattle.tables.proofs.Wiped.{length-wiped, wiped-word, length-piled, piled-word, stack-numbers}
 use Rattle.tables.proofs.Place.{Gap, placed}
-use Rattle.tables.proofs.SoundOf.{sound-from}
+use Rattle.tables.proofs.SoundOf.{head-of-blank, sound-from}
 
 -- ---- the fresh words
 module _ (E : Edition) (size count : ℕ) (nodes pile : List ℕ) (size-fits : size ≤ E .greatest) (R : Room E count (length nodes) (length pile)) where
@@ -95,8 +95,8 @@ module _ (E : Edition) (size count : ℕ) (nodes pile : List ℕ) (size-fits : s
 
   fresh-sound : Sound E (fresh E size count nodes pile) (setup by-class size count)
   unfolding fresh setup popPile insert insertAt
-  fresh-sound = sound-from E (fresh E size count nodes pile) size (setup by-class size count) size count refl refl
-      (R .count-low) (R .count-high) size-fits (setup-well by-class class-laws size count (R .count-low))
+  fresh-sound = sound-from E (blank E size count nodes pile) (fresh E size count nodes pile) size (setup by-class size count)
+      (head-of-blank E size count nodes pile (R .count-low) (R .count-high) size-fits) refl (setup-well by-class class-laws size count (R .count-low))
       (placed K (popPile (blank E size count nodes pile)) [] [] (λ c. []) others 0 size 0 (E .none) (E .none) fresh-gap
       (omega (arith, down-most size (omega (arith, E .fits)))) refl refl refl)
       (omega arith)

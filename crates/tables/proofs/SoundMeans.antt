@@ -19,7 +19,7 @@ use Rattle.tables.specs.Setup.{tablesAlone, setupWords}
 use Rattle.tables.specs.Calls.{edition32, answerWords}
 use Rattle.tables.specs.Examples.{desk}
 use Rattle.tables.specs.SoundMeans.{ofTwo, AllRight, OneWrong}
-use Rattle.tables.proofs.Runs.{demand-2}
+use Rattle.tables.proofs.OverRuns.{demand-2}
 
 -- two numbers that are not the same
 never : (a b : ℕ) → eqb a b ≡ false → a ≡ b → ⊥

@@ -1,12 +1,13 @@
 -- Sound words, seen as a shelf and a standing line, and made again from these. Assumes nothing.
-use mathlib.Core.Path.{_≡_, refl, ap, _∙_}
+use mathlib.Core.Path.{_≡_, refl, ap, sym, _∙_, subst}
 use mathlib.Core.List.{List, [], _∷_}
+use mathlib.Core.Logic.{_≢_}
 use Prim.Native.Nat.{ℕ, _≤_, _<_}
 use native.Mathlib.Omega.{arith}
 use lib.ListN.{length}
 use Rattle.basics.specs.Sum.{is, tally}
 use Rattle.basics.proofs.Sums.{tally-le, held-first}
-use Rattle.basics.proofs.Counts.{In}
+use Rattle.basics.proofs.Counts.{In, one-below}
 use Rattle.small_float.specs.Class.{down, classesInUse}
 use Rattle.small_float.proofs.Rounding.{down-most}
 use Rattle.ledger.specs.Ledger.{Ledger, len, freeLen, stands, by-class, Stacks}
@@ -16,9 +17,11 @@ use Rattle.ledger.proofs.KeptStacks.{stands-le}
 use Rattle.ledger.proofs.ClassCases.{free-of}
 use Rattle.tables.specs.Layout.{dataSize, word}
 use Rattle.tables.specs.Words.{Words, Edition, bounds, withTotal}
+use Rattle.tables.specs.Setup.{blank}
+use Rattle.tables.specs.Linked.{recs}
 use Rattle.tables.specs.Sound.{Sound}
 use Rattle.tables.specs.Room.{Room}
-use Rattle.tables.proofs.Lines.{reads-at}
+use Rattle.tables.proofs.Lines.{recs-count, reads-at}
 use Rattle.tables.proofs.Shelf.{Shelf}
 use Rattle.tables.proofs.Place.{Standing}
 
@@ -28,6 +31,13 @@ module _ (E : Edition) (w : Words) (l : Ledger Stacks) (S : Sound E w l) where
 
   pub count-none : w .count ≤ E .none
   count-none = omega (arith, S .room .tables .count-high, E .small)
+
+  -- the records of the line are below the count, and so none is taken for an absent one
+  pub line-low : (q : ℕ) → In q (recs (l .line)) → q < w .count
+  line-low q h = one-below q (w .count) (omega (arith, S .well .lined .once q, recs-count q (l .line)))
+
+  pub line-some : (q : ℕ) → In q (recs (l .line)) → q ≢ E .none
+  line-some q h = omega (arith, line-low q h, count-none)
 
   -- a stack holds free regions of the line alone
   pub stacks-inside : (c q : ℕ) → tally (is q) (l .index c) ≤ tally (has q) (l .line)
@@ -67,26 +77,57 @@ module _ (E : Edition) (w : Words) (l : Ledger Stacks) (S : Sound E w l) where
   pub standing : Standing (bounds E w) w (l .line) (l .index) (l .pile)
   standing = record { shelf = shelf-of; reads = S .line .reads; chain = S .line .chain; dead = S .spare .dead; once = S .well .lined .once }
 
--- words of this size and count, in which a ledger in order stands, are sound with its true total
-pub sound-from : (E : Edition) (w : Words) (total : ℕ) (l : Ledger Stacks) (size count : ℕ) → w .size ≡ size → w .count ≡ count
-    → 2 ≤ count → count ≤ E .limit → size ≤ E .greatest → WellFormed by-class size count l
-    → Standing record { n = count; none = E .none } w (l .line) (l .index) (l .pile) → total ≡ tally freeLen (l .line)
-    → Sound E (withTotal w total) l
-sound-from E w total l size count size-is count-is low high fits well st sum = record {
+-- the words v under what of w's head no take and no hand-back changes
+abbrev pub headKept : Words → Words → Words
+headKept w v = record {
+  size = w .size;
+  count = w .count;
+  freeStorage = v .freeStorage;
+  freeOffset = v .freeOffset;
+  usedBinsTop = v .usedBinsTop;
+  usedBins = v .usedBins;
+  binIndices = v .binIndices;
+  nodes = v .nodes;
+  pile = v .pile;
+}
+
+-- and what sound words have of it
+pub record HeadHolds (E : Edition) (w : Words) : Type 0 where
+  pub count-low : 2 ≤ w .count
+  pub count-high : w .count ≤ E .limit
+  pub size-fits : w .size ≤ E .greatest
+
+pub head-of : {E : Edition} {w : Words} {l : Ledger Stacks} → Sound E w l → HeadHolds E w
+head-of S = record {
+  count-low = S .room .tables .count-low;
+  count-high = S .room .tables .count-high;
+  size-fits = S .room .of-head .size-fits;
+}
+
+pub head-of-blank : (E : Edition) (size count : ℕ) (nodes pile : List ℕ) → 2 ≤ count → count ≤ E .limit → size ≤ E .greatest
+    → HeadHolds E (blank E size count nodes pile)
+unfolding blank
+head-of-blank E size count nodes pile low high fits = record { count-low = low; count-high = high; size-fits = fits }
+
+-- words under that head, in which a ledger in order stands, are sound with its true total
+pub sound-from : (E : Edition) (w v : Words) (total : ℕ) (l : Ledger Stacks) → HeadHolds E w → v ≡ headKept w v
+    → WellFormed by-class (w .size) (w .count) l → Standing (bounds E w) v (l .line) (l .index) (l .pile) → total ≡ tally freeLen (l .line)
+    → Sound E (withTotal v total) l
+sound-from E w v total l H kept well st sum = subst (λ (z : Words). Sound E (withTotal z total) l) (sym kept) record {
   room = record {
     tables = record {
-      count-low = rw count-is low;
-      count-high = rw count-is high;
-      nodes-room = rw count-is (st .shelf .nodes-room);
-      pile-room = rw count-is (st .shelf .on-pile .pile-room);
+      count-low = H .count-low;
+      count-high = H .count-high;
+      nodes-room = st .shelf .nodes-room;
+      pile-room = st .shelf .on-pile .pile-room;
     };
     of-head = record {
-      size-fits = rw size-is fits;
+      size-fits = H .size-fits;
       heads-room = st .shelf .in-lists .heads-room;
       leaves-room = st .shelf .in-bits .leaves-room;
     };
   };
-  well = rw (size-is, count-is) well;
+  well = well;
   spare = record { piled = st .shelf .on-pile .piled; spares = st .shelf .on-pile .spares; dead = st .dead };
   line = record { reads = st .reads; chain = st .chain };
   lists = record { lists = st .shelf .in-lists .lists; tops = st .shelf .in-lists .tops };

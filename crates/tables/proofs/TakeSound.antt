@@ -33,7 +33,7 @@ use Rattle.tables.specs.Claims.{Holds}
 use Rattle.tables.proofs.Lines.{reads-at}
 use Rattle.tables.proofs.Spares.{SparesStand, next-spare}
 use Rattle.tables.proofs.Place.{Standing}
-use Rattle.tables.proofs.SoundOf.{stacks-inside, high-empty, shelf-of, standing, sound-from}
+use Rattle.tables.proofs.SoundOf.{stacks-inside, high-empty, shelf-of, standing, head-of, sound-from}
 use Rattle.tables.proofs.Search.{search-finds}
 use Rattle.tables.proofs.Grant.{whole-standing, split-standing}
 
@@ -158,8 +158,8 @@ module _ (E : Edition) (w : Words) (l : Ledger Stacks) (S : Sound E w l) (s : �
 
     whole-sound : n - s ≡ 0 → Sound E (withTotal (granting (bounds E w) w s (down n) r) (w .freeStorage - s)) (next 0)
     unfolding cut
-    whole-sound e = sound-from E (granting (bounds E w) w s (down n) r) (w .freeStorage - s) (next 0) (w .size) (w .count)
-        (unfold granting unlinkAt in refl) (unfold granting unlinkAt in refl) (S .room .tables .count-low) (S .room .tables .count-high) (S .room .of-head .size-fits) (rw e at next-well)
+    whole-sound e = sound-from E w (granting (bounds E w) w s (down n) r) (w .freeStorage - s) (next 0) (head-of S)
+        (unfold granting unlinkAt in refl) (rw e at next-well)
         (rw (reverseAux-eq (t .before) (live s r ∷ t .after))
         (whole-standing (bounds E w) w xs (t .after) n r s (l .index) (l .pile) (t .under) st (t .on-top) inside (omega (arith, t .long-enough))))
         (omega (arith, S .total, sum-at (t .place) freeLen, tally-reverseAux freeLen (t .before) (live s r ∷ t .after), t .long-enough))
@@ -167,9 +167,8 @@ module _ (E : Edition) (w : Words) (l : Ledger Stacks) (S : Sound E w l) (s : �
     split-sound : (k : ℕ) → n - s ≡ suc k
         → Sound E (withTotal (splitting (bounds E w) w s (down n) r o (n - s) m) (w .freeStorage - s)) (next (suc k))
     unfolding cut
-    split-sound k e = rw e (sound-from E (splitting (bounds E w) w s (down n) r o (suc k) m) (w .freeStorage - s) (next (suc k)) (w .size) (w .count)
-        (unfold splitting insert insertAt popPile granting unlinkAt in refl) (unfold splitting insert insertAt popPile granting unlinkAt in refl)
-        (S .room .tables .count-low) (S .room .tables .count-high) (S .room .of-head .size-fits) (rw e at next-well)
+    split-sound k e = rw e (sound-from E w (splitting (bounds E w) w s (down n) r o (suc k) m) (w .freeStorage - s) (next (suc k)) (head-of S)
+        (unfold splitting insert insertAt popPile granting unlinkAt in refl) (rw e at next-well)
         (rw (reverseAux-eq (t .before) (live s r ∷ free (suc k) m ∷ t .after), ← (append-snoc xs (live s r) (free (suc k) m ∷ t .after)))
         (rw e at (split-standing (bounds E w) w xs (t .after) n r s (l .index) (l .pile) (t .under) st (t .on-top) inside m rest pile-is
         (omega (arith, t .two-spare, length-drop 1 (l .pile))) (t .long-enough) o (sym o-is) low)))

@@ -11,7 +11,7 @@ use Rattle.basics.specs.Sum.{one}
 use Rattle.basics.proofs.Decided.{below, beyond, below?}
 use Rattle.small_float.specs.Class.{up}
 use Rattle.ledger.specs.Ledger.{Answer}
-use Rattle.ledger.specs.Calls.{Call, Take, HandBack, Reset, Ask}
+use Rattle.ledger.specs.Calls.{Token, Call, Take, HandBack, Reset, Ask}
 use Rattle.tables.specs.Layout.{dataOffset, dataSize, binNext, neighborPrev, neighborNext, used, word, nodesNeeded, pileNeeded}
 use Rattle.tables.specs.Words.{Words, Edition, Bounds, bounds, withTables}
 use Rattle.tables.specs.Steps.{popPile}
@@ -150,10 +150,13 @@ module _ (w : Words) (nodes pile : List ℕ) (N : AgreeOn (nodesNeeded (w .count
         neighbours-same (word (w .nodes) neighborPrev r) (word (w .nodes) neighborNext r)
         ∙ ap₂ (planNeighbours v r) (reads neighborPrev r (omega arith) r-low) (reads neighborNext r (omega arith) r-low)
 
-  back-same : (r : ℕ) → planBack w r ≡ planBack v r
+  back-same : (span : Token) → planBack w span ≡ planBack v span
   unfolding planBack
-  back-same r = rw (← (live-same w nodes pile N P r)) (at (isLive (w .nodes) (w .count) r) refl)
+  back-same span = rw (← (live-same w nodes pile N P (span .number))) (at (isLive (w .nodes) (w .count) (span .number)) refl)
     where
+      r : ℕ
+      r = span .number
+
       at : (t : Bool) → isLive (w .nodes) (w .count) r ≡ t
           → cond t (planNeighbours w r (word (w .nodes) neighborPrev r) (word (w .nodes) neighborNext r)) (BackPlan.stop 5)
           ≡ cond t (planNeighbours v r (word nodes neighborPrev r) (word nodes neighborNext r)) (BackPlan.stop 5)
@@ -173,10 +176,11 @@ module _ (w : Words) (nodes pile : List ℕ) (N : AgreeOn (nodesNeeded (w .count
         (m .total),
   )
 
-  back-alike : (E : Edition) (r : ℕ) → Alike (w .count) (doBack E w r (planBack w r)) (doBack E v r (planBack v r))
-  back-alike E r =
-      subst (λ (p : BackPlan). Alike (w .count) (doBack E w r (planBack w r)) (doBack E v r p)) (back-same r)
-      (back-by-plan E r (planBack w r) (back-guards w r))
+  back-alike : (E : Edition) (span : Token)
+      → Alike (w .count) (doBack E w (span .number) (planBack w span)) (doBack E v (span .number) (planBack v span))
+  back-alike E span =
+      subst (λ (p : BackPlan). Alike (w .count) (doBack E w (span .number) (planBack w span)) (doBack E v (span .number) p)) (back-same span)
+      (back-by-plan E (span .number) (planBack w span) (back-guards w span))
 
 -- ---- setup and reset
 fresh-agree : (E : Edition) (size count : ℕ) {nodes pile others spare : List ℕ} → AgreeOn (nodesNeeded count) nodes others
@@ -205,7 +209,7 @@ module _ (E : Edition) (w : Words) (nodes pile : List ℕ) (N : AgreeOn (nodesNe
   behind-alike : (c : Call) → Alike (w .count) (behind E c w) (behind E c (withTables w nodes pile))
   unfolding behind
   behind-alike (Take asked) = take-alike w nodes pile N P E (asked .size)
-  behind-alike (HandBack span) = back-alike w nodes pile N P E (span .number)
+  behind-alike (HandBack span) = back-alike w nodes pile N P E span
   behind-alike Reset = (refl, fresh-agree E (w .size) (w .count) N P)
   behind-alike (Ask q) = (told-alike w nodes pile N P q, agree w nodes pile N P)
 

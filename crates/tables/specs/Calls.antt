@@ -17,7 +17,7 @@ module _ (E : Edition) where
   unfoldable pub behind : Call → Words → Answer × Words
   unfolding planTake doTake planBack doBack fresh toldBy
   behind (Take asked) w = doTake E w (asked .size) (planTake w (asked .size))
-  behind (HandBack span) w = doBack E w (span .number) (planBack w (span .number))
+  behind (HandBack span) w = doBack E w (span .number) (planBack w span)
   behind Reset w = (done, fresh E (w .size) (w .count) (w .nodes) (w .pile))
   behind (Ask q) w = (toldBy w q, w)
 

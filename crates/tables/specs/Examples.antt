@@ -8,7 +8,7 @@ use lib.ListN.{length, set, replicate}
 use Rattle.ledger.specs.Ledger.{Answer, granted, done, length-is, reported, refused}
 use Rattle.ledger.specs.Calls.{Request, Token, Question, SizeOf, Report, FullReport, Call, Take, HandBack, Reset, Ask}
 use Rattle.ledger.specs.Calls.{takes, hands-back, asks-size, answers, end}
-use Rattle.ledger.specs.Runs.{the-calls, the-answers}
+use Rattle.ledger.specs.RunToFollow.{the-calls, the-answers}
 use Rattle.tables.specs.Layout.{dataOffset, dataSize, binNext, put, nodesNeeded, pileNeeded}
 use Rattle.tables.specs.Words.{Words, Edition, withNodes, withLists, withTotal}
 use Rattle.tables.specs.Gate.{gate, setupGate}
@@ -79,7 +79,7 @@ pub record NearlyRight : Type 0 where
   -- the old top's back link not written: of two regions of class 10 the lower is merged away first, and the class is then empty
   pub linked-back : answers (answerWords edition32)
       (takes 10 ∷ takes 10 ∷ takes 10 ∷ takes 10 ∷ takes 10 ∷ takes 10
-      ∷ hands-back 0 ∷ hands-back 2 ∷ hands-back 1 ∷ hands-back 4 ∷ takes 10 ∷ [])
+      ∷ hands-back 0 0 ∷ hands-back 20 2 ∷ hands-back 10 1 ∷ hands-back 40 4 ∷ takes 10 ∷ [])
       (desk 100 8)
       ≡ granted 0 0 ∷ granted 10 1 ∷ granted 20 2 ∷ granted 30 3 ∷ granted 40 4 ∷ granted 50 5
       ∷ done ∷ done ∷ done ∷ done ∷ granted 40 4 ∷ []
@@ -99,8 +99,8 @@ pub record Spoiled : Type 0 where
   -- a list that comes back to its own record
   pub around : answerWords edition32 (Ask FullReport) (spoiled binNext 0) ≡ (refused 6, spoiled binNext 0)
   -- a kept total that a span of 20, handed back, would take past the size; one less, and it does not
-  pub total-past : answerWords edition32 (hands-back 0) (withTotal afterTwo 81) .0 ≡ refused 6
-  pub total-just : answerWords edition32 (hands-back 0) (withTotal afterTwo 80) .0 ≡ done
+  pub total-past : answerWords edition32 (hands-back 0 0) (withTotal afterTwo 81) .0 ≡ refused 6
+  pub total-just : answerWords edition32 (hands-back 0 0) (withTotal afterTwo 80) .0 ≡ done
   -- nothing else is spoiled: with the word that belongs there, it is the fresh store, where neither call is refused
   pub right-size : spoiled dataSize 100 ≡ desk 100 6
   pub right-offset : spoiled dataOffset 0 ≡ desk 100 6

@@ -3,6 +3,7 @@ use mathlib.Core.Path.{_≡_}
 use mathlib.Core.Bool.{Bool}
 use Prim.Native.Nat.{ℕ, _+_, _≤_, _<_}
 use Rattle.basics.specs.Sum.{one}
+use Rattle.ledger.specs.Calls.{Token}
 use Rattle.tables.specs.Words.{Words}
 use Rattle.tables.specs.Take.{TakePlan, stop, whole, split, planTake}
 use Rattle.tables.specs.HandBack.{BackPlan, merge, Merged, planBack}
@@ -44,6 +45,6 @@ pub record GuardsMean : Type 0 where
       → (c < 256) × (r < w .count) × (o + s ≤ w .size) × (s ≤ w .freeStorage) × (1 ≤ w .freeOffset)
   pub split-sure : (w : Words) (s c r o rest m : ℕ) → planTake w s ≡ split c r o rest m
       → (c < 256) × (r < w .count) × (o + s ≤ w .size) × (s ≤ w .freeStorage) × (1 ≤ w .freeOffset) × (w .freeOffset < w .count) × (m < w .count)
-  pub merge-sure : (w : Words) (r p x : ℕ) (p-free x-free : Bool) (m : Merged) → planBack w r ≡ merge p x p-free x-free m
-      → (r < w .count) × (1 ≤ one p-free → p < w .count) × (1 ≤ one x-free → x < w .count)
+  pub merge-sure : (w : Words) (span : Token) (p x : ℕ) (p-free x-free : Bool) (m : Merged) → planBack w span ≡ merge p x p-free x-free m
+      → (span .number < w .count) × (1 ≤ one p-free → p < w .count) × (1 ≤ one x-free → x < w .count)
       × (m .length ≤ w .size) × (m .total ≤ w .size) × (w .freeOffset + one p-free + one x-free < w .count)

@@ -5,6 +5,7 @@ use Prim.Native.Nat.{ℕ, _+_}
 use lib.Dec.{ltb, eqb}
 use Rattle.basics.specs.Sum.{one}
 use Rattle.ledger.specs.Ledger.{Answer, done, refused}
+use Rattle.ledger.specs.Calls.{Token}
 use Rattle.tables.specs.Layout.{dataOffset, dataSize, neighborPrev, neighborNext, used, word}
 use Rattle.tables.specs.Words.{Words, Edition, Bounds, bounds, withTotal}
 use Rattle.tables.specs.Steps.{insert, unlink, pushPile}
@@ -56,11 +57,11 @@ unfoldable pub planNeighbours : Words → (r p x : ℕ) → BackPlan
 unfolding planSides isFree
 planNeighbours w r p x = planSides w r p x (isFree (w .nodes) (w .count) p) (isFree (w .nodes) (w .count) x)
 
-unfoldable pub planBack : Words → ℕ → BackPlan
+unfoldable pub planBack : Words → Token → BackPlan
 unfolding planNeighbours isLive
-planBack w r =
-    cond (isLive (w .nodes) (w .count) r)
-    (planNeighbours w r (word (w .nodes) neighborPrev r) (word (w .nodes) neighborNext r))
+planBack w span =
+    cond (isLive (w .nodes) (w .count) (span .number))
+    (planNeighbours w (span .number) (word (w .nodes) neighborPrev (span .number)) (word (w .nodes) neighborNext (span .number)))
     (stop 5)
 
 -- ---- the commit

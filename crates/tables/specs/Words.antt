@@ -100,3 +100,17 @@ withPile w off pile = record {
   nodes = w .nodes;
   pile = pile;
 }
+
+-- ---- words from scalars and lists, for rows
+abbrev pub wordsFrom : (size count total off top : ℕ) → (leaves heads nodes pile : List ℕ) → Words
+wordsFrom size count total off top leaves heads nodes pile = record {
+  size = size;
+  count = count;
+  freeStorage = total;
+  freeOffset = off;
+  usedBinsTop = top;
+  usedBins = leaves;
+  binIndices = heads;
+  nodes = nodes;
+  pile = pile;
+}

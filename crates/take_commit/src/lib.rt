@@ -7,22 +7,22 @@ ghost use mathlib.Core.List.{List, []};
 ghost use Rattle.tables.specs.Words.{withTotal};
 ghost use Rattle.tables.specs.Take.{granting, splitting};
 ghost use Rattle.tables.specs.Guards.{GrantGuards, SplitGuards};
-ghost use Rattle.bins.specs.InWords.{wordsOf, bound, HasRoom};
+ghost use Rattle.records.specs.InWords.{wordsOf, bound, HasRoom};
 use answers::Handle;
-use bins::nodes;
-use bins::totals::Totals;
+use records::nodes;
+use records::totals::Totals;
 use small_float::Size;
 use take_plan::Region;
 use take_plan::Remainder;
 
 // The top of its class leaves its list and becomes live with this size.
 fn make_live(
-    bin_indices: &mut [u32; 256],
-    used_bins: &mut [u8; 32],
-    nodes: &mut [u32],
     t: Totals,
     size: Size,
     region: Region,
+    bin_indices: &mut [u32; 256],
+    used_bins: &mut [u8; 32],
+    nodes: &mut [u32],
 ) -> Totals
     requires { ⌜ HasRoom (t .«max_allocs») (now nodes) ⌝ }
     requires { ⌜ GrantGuards (wordsOf t [] [] [] []) (size .0) (region .class .0) (region .record .0) (region .offset) ⌝ }
@@ -43,12 +43,12 @@ fn make_live(
 
 // A region of just the right length.
 pub fn grant_whole(
-    bin_indices: &mut [u32; 256],
-    used_bins: &mut [u8; 32],
-    nodes: &mut [u32],
     t: Totals,
     size: Size,
     region: Region,
+    bin_indices: &mut [u32; 256],
+    used_bins: &mut [u8; 32],
+    nodes: &mut [u32],
 ) -> Totals
     requires { ⌜ HasRoom (t .«max_allocs») (now nodes) ⌝ }
     requires { ⌜ GrantGuards (wordsOf t [] [] [] []) (size .0) (region .class .0) (region .record .0) (region .offset) ⌝ }
@@ -59,19 +59,19 @@ pub fn grant_whole(
         (t .«free_storage» - size .0)) ⌝ }
 {
     let left = t.free_storage - size.0;
-    let u = make_live(bin_indices, used_bins, nodes, t, size, region);
+    let u = make_live(t, size, region, bin_indices, used_bins, nodes);
     u.with_free_storage(left)
 }
 
 // A longer region: the remainder takes its record off the pile and stands just after the region.
 pub fn grant_part(
-    bin_indices: &mut [u32; 256],
-    used_bins: &mut [u8; 32],
-    nodes: &mut [u32],
     t: Totals,
     size: Size,
     region: Region,
     rest: Remainder,
+    bin_indices: &mut [u32; 256],
+    used_bins: &mut [u8; 32],
+    nodes: &mut [u32],
 ) -> Totals
     requires { ⌜ HasRoom (t .«max_allocs») (now nodes) ⌝ }
     requires { ⌜ GrantGuards (wordsOf t [] [] [] []) (size .0) (region .class .0) (region .record .0) (region .offset) ⌝ }
@@ -86,8 +86,8 @@ pub fn grant_part(
     let end = region.offset + size.0;
     let r = region.record;
     let next = Handle(nodes::word(nodes, r, nodes::NEIGHBOR_NEXT));
-    let u = make_live(bin_indices, used_bins, nodes, t, size, region);
-    let v = bins::pile::pop(u);
+    let u = make_live(t, size, region, bin_indices, used_bins, nodes);
+    let v = records::pile::pop(u);
     let w = bins::insert::insert_node_into_bin(
         bin_indices,
         used_bins,

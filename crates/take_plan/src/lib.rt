@@ -7,14 +7,14 @@ ghost use mathlib.Core.List.{[]};
 ghost use lib.ListN.{length as length-of, getD};
 ghost use Rattle.small_float.specs.Class.{up};
 ghost use Rattle.tables.specs.Take.{planSpare, planRegion, planRecord, planTake};
-ghost use Rattle.bins.specs.InWords.{wordsOf, HasRoom};
+ghost use Rattle.records.specs.InWords.{wordsOf, HasRoom};
 ghost use Rattle.take_plan.specs.Plan.{planOf, Seeks};
 use answers::Handle;
 use answers::Refusal;
-use bins::nodes;
-use bins::totals::Totals;
 use bitmap::search;
 use bitmap::search::Found;
+use records::nodes;
+use records::totals::Totals;
 use small_float::Class;
 use small_float::Size;
 
@@ -45,7 +45,7 @@ pub enum Sought {
 }
 
 // A remainder needs the record on top of the pile.
-fn plan_spare(t: Totals, free_nodes: &[u32], region: Region, rest: Size) -> Planned
+fn plan_spare(t: Totals, region: Region, rest: Size, free_nodes: &[u32]) -> Planned
     requires { ⌜ t .«max_allocs» ≤ length-of (now «free_nodes») ⌝ }
     ensures { λ g. ⌜ planOf g
         ≡ planSpare (wordsOf t [] [] [] (now («free_nodes» .entry)))
@@ -55,7 +55,7 @@ fn plan_spare(t: Totals, free_nodes: &[u32], region: Region, rest: Size) -> Plan
     if t.max_allocs <= top {
         return Planned::Stop(Refusal::Unsound);
     }
-    let m = bins::pile::spare(free_nodes, top);
+    let m = records::pile::spare(free_nodes, top);
     if t.max_allocs <= m.0 {
         return Planned::Stop(Refusal::Unsound);
     }
@@ -69,7 +69,7 @@ fn plan_spare(t: Totals, free_nodes: &[u32], region: Region, rest: Size) -> Plan
 }
 
 // The region found is long enough, lies in the store, and the kept total has room for the request.
-fn plan_region(t: Totals, free_nodes: &[u32], size: Size, region: Region, length: Size) -> Planned
+fn plan_region(t: Totals, size: Size, region: Region, length: Size, free_nodes: &[u32]) -> Planned
     requires { ⌜ t .«max_allocs» ≤ length-of (now «free_nodes») ⌝ }
     ensures { λ g. ⌜ planOf g
         ≡ planRegion (wordsOf t [] [] [] (now («free_nodes» .entry))) (size .0) (region .class .0) (region .record .0) (length .0) (region .offset) ⌝ }
@@ -91,17 +91,17 @@ fn plan_region(t: Totals, free_nodes: &[u32], size: Size, region: Region, length
     if long == wanted {
         return Planned::Whole(region);
     }
-    plan_spare(t, free_nodes, region, Size(long - wanted))
+    plan_spare(t, region, Size(long - wanted), free_nodes)
 }
 
 // The top of the class is a record.
 fn plan_record(
     t: Totals,
-    nodes: &[u32],
-    free_nodes: &[u32],
     size: Size,
     c: Class,
     r: Handle,
+    nodes: &[u32],
+    free_nodes: &[u32],
 ) -> Planned
     requires { ⌜ HasRoom (t .«max_allocs») (now nodes) ⌝ }
     requires { ⌜ t .«max_allocs» ≤ length-of (now «free_nodes») ⌝ }
@@ -117,7 +117,7 @@ fn plan_record(
         record: r,
         offset: offset,
     };
-    plan_region(t, free_nodes, size, region, long)
+    plan_region(t, size, region, long, free_nodes)
 }
 
 // Spares are asked for before fit, so where both are wanting it is the number of spares.
@@ -144,11 +144,11 @@ fn class_wanted(size: u32) -> Class
 // What a take of this size finds.
 pub fn plan(
     t: Totals,
+    size: Size,
     bin_indices: &[u32; 256],
     used_bins: &[u8; 32],
     nodes: &[u32],
     free_nodes: &[u32],
-    size: Size,
 ) -> Planned
     requires { ⌜ HasRoom (t .«max_allocs») (now nodes) ⌝ }
     requires { ⌜ t .«max_allocs» ≤ length-of (now «free_nodes») ⌝ }
@@ -161,7 +161,7 @@ pub fn plan(
         Sought::Stop(why) => Planned::Stop(why),
         Sought::In(c) => {
             let top = bin_indices[c.0 as usize];
-            plan_record(t, nodes, free_nodes, size, c, Handle(top))
+            plan_record(t, size, c, Handle(top), nodes, free_nodes)
         }
     }
 }

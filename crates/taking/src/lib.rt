@@ -8,14 +8,14 @@ ghost use Rattle.tables.specs.Calls.{edition32};
 ghost use Rattle.tables.specs.Promise.{Promise};
 ghost use Rattle.answers.specs.Refusals.{numberOf};
 ghost use Rattle.answers.specs.Asked.{requestOf};
-ghost use Rattle.bins.specs.InWords.{wordsOf, HasRoom};
+ghost use Rattle.records.specs.InWords.{wordsOf, HasRoom};
 ghost use Rattle.answers.specs.Answers.{takeSays};
 ghost use Rattle.taking.specs.Answers.{TakesAsPlanned};
 use answers::Allocation;
 use answers::Refusal;
 use answers::TakeAnswer;
-use bins::gate::Gate;
-use bins::totals::Totals;
+use records::gate::Gate;
+use records::totals::Totals;
 use small_float::Size;
 use take_plan::Planned;
 use take_plan::Region;
@@ -51,11 +51,11 @@ fn grant(region: Region, t: Totals) -> Taken
 // Behind the gate.
 fn take(
     t: Totals,
+    size: Size,
     bin_indices: &mut [u32; 256],
     used_bins: &mut [u8; 32],
     nodes: &mut [u32],
     free_nodes: &[u32],
-    size: Size,
 ) -> Taken
     requires { ⌜ HasRoom (t .«max_allocs») (now nodes) ⌝ }
     requires { ⌜ t .«max_allocs» ≤ length (now «free_nodes») ⌝ }
@@ -64,14 +64,14 @@ fn take(
         (wordsOf (a .totals) (now («bin_indices» .exit)) (now («used_bins» .exit)) (now (nodes .exit)) (now («free_nodes» .entry)))
         (takeSays (a .answer)) ⌝ }
 {
-    match take_plan::plan(t, bin_indices, used_bins, nodes, free_nodes, size) {
+    match take_plan::plan(t, size, bin_indices, used_bins, nodes, free_nodes) {
         Planned::Stop(why) => refuse(why, t),
         Planned::Whole(region) => {
-            let u = take_commit::grant_whole(bin_indices, used_bins, nodes, t, size, region);
+            let u = take_commit::grant_whole(t, size, region, bin_indices, used_bins, nodes);
             grant(region, u)
         }
         Planned::Split(region, rest) => {
-            let u = take_commit::grant_part(bin_indices, used_bins, nodes, t, size, region, rest);
+            let u = take_commit::grant_part(t, size, region, rest, bin_indices, used_bins, nodes);
             grant(region, u)
         }
     }
@@ -91,8 +91,8 @@ pub fn allocate(
         (wordsOf (a .totals) (now («bin_indices» .exit)) (now («used_bins» .exit)) (now (nodes .exit)) (now («free_nodes» .entry)))
         (takeSays (a .answer)) ⌝ }
 {
-    match bins::gate::test(t.max_allocs, nodes, free_nodes, Refusal::Unsound) {
+    match records::gate::test(t.max_allocs, nodes, free_nodes, Refusal::Unsound) {
         Gate::Shut(why) => refuse(why, t),
-        Gate::Open => take(t, bin_indices, used_bins, nodes, free_nodes, size),
+        Gate::Open => take(t, size, bin_indices, used_bins, nodes, free_nodes),
     }
 }

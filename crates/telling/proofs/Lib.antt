@@ -1,4 +1,3 @@
--- Columns: a full report, a class at a time. Agreeing: an answer found again from its row. Claims: what each row asks, and agrees with.
+-- Columns: a full report, a class at a time. Promised: from a promise and what was told of it to what a call made.
 pub mod Columns
-pub mod Agreeing
-pub mod Claims
+pub mod Promised

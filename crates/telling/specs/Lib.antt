@@ -1,7 +1,3 @@
--- Rows: a row as a call, an answer as a row. Full: the rows of a full report. Told: answers in numbers. Forms: what is asked of each form.
--- Claims: what the rows ask, and agree with.
-pub mod Rows
-pub mod Full
+-- Told: answers in numbers. Made: what a call is answered and leaves.
 pub mod Told
-pub mod Forms
-pub mod Claims
+pub mod Made

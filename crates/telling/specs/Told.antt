@@ -6,8 +6,8 @@ use lib.Dec.{eqb, leb}
 use lib.ListN.{getD}
 use Rattle.basics.specs.Sum.{tally}
 use Rattle.ledger.specs.Ledger as ledger
-use Rattle.judging.specs.declared.answer.Answer.{Answer}
-use Rattle.judging.specs.declared.answer.Answer.the-variants as answer
+use Rattle.call_values.specs.declared.answer.Answer.{Answer}
+use Rattle.call_values.specs.declared.answer.Answer.the-variants as answer
 
 -- of a full report, the value and the count of each class, is told what is asked of it
 abbrev pub toldAs : (List (ℕ × ℕ) → Answer) → ledger.Answer → Answer

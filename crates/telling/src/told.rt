@@ -16,7 +16,7 @@ use answers::ReportAnswer;
 use answers::SizeAnswer;
 use answers::StartAnswer;
 use answers::TakeAnswer;
-use judging::answer::Answer;
+use call_values::answer::Answer;
 
 pub fn of_start(answer: StartAnswer) -> Answer
     ensures { λ r. ⌜ r ≡ told (startSays answer) ⌝ }

@@ -10,7 +10,7 @@ mod spoiled;
 use list::outcome;
 use list::runs;
 use list::runs::Replay;
-use telling::forms::Forms;
+use run_rows::forms::Forms;
 
 // The form that is left out is lent tables of one word, which nothing touches.
 fn replay_in_place(nodes: &mut [u32; 1048576], free_nodes: &mut [u32; 131072]) -> Replay {

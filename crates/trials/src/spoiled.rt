@@ -3,7 +3,8 @@
 // run shows it.
 //
 // A round: `spoiling` makes a head with its tables, from `garbage` or from a true store with a few words overwritten; `arguments` draws the
-// calls; `calling::copies` makes them, each on a copy; the library `judging` says what came of them and counts it, by `columns`; and `printing` prints it.
+// calls; the library `calling_on_copies` makes them, each on a copy; `judging` and `judging_audits` say what came of them, `counting` counts it, by
+// `columns`; and `printing` prints it.
 mod arguments;
 mod columns;
 mod garbage;

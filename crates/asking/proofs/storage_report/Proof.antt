@@ -1,10 +1,12 @@
 -- Shut out by the gate, or let in. Assumes nothing.
+use mathlib.Core.Path.{refl}
 use Rattle.ledger.specs.Calls.{Report, Ask}
 use Rattle.tables.specs.Questions.{reportClass, reportLeaf, reportTop, reportOf, toldBy}
-use Rattle.tables.specs.Calls.{edition32}
+use Rattle.tables.specs.Calls.{edition32, behind}
+use Rattle.tables.proofs.Gate.{let-in}
+use Rattle.tables.proofs.Commits.{outcome-is}
 use Rattle.tables.proofs.Promise.{promise}
-use Rattle.bins.proofs.GateWalk.{shut-out, opened}
-use Rattle.asking.proofs.Walk.{question-answered}
+use Rattle.records.proofs.GateWalk.{shut-out, opened}
 use borrow.Author.Needs.{needs}
 use Rattle.asking.proofs.storage_report.Statement.{statement}
 use Rattle.asking.proofs.storage_report.Tie as tie
@@ -24,14 +26,15 @@ report-requires c κs = search needs
 returns : tie.Need-returns
 returns c =
     let found = c .before in
-    promise edition32 (Ask Report) _ (shut-out _ (Ask Report) (found .before .before .test .ensures) (found .why .given .1))
+    promise edition32 (Ask Report) _ (shut-out edition32 _ (Ask Report) (found .before .before .test .ensures) (found .why .given .1))
 
 returns-2 : tie.Need-returns-2
-unfolding toldBy reportOf reportTop reportLeaf reportClass
+unfolding behind toldBy reportOf reportTop reportLeaf reportClass
 returns-2 c =
     let told = c .before in
     promise edition32 (Ask Report) _
-    (question-answered _ (opened _ (told .before .before .test .ensures) (told .enum-told .given .1)) Report (c .report .ensures))
+    (let-in edition32 (Ask Report) _ (opened edition32 _ (told .before .before .test .ensures) (told .enum-told .given .1))
+    (outcome-is (c .report .ensures) refl))
 
 pub storage-report-spec : {M : Type 1} → statement M
 storage-report-spec =

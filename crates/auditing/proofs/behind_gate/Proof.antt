@@ -1,6 +1,6 @@
 -- Cleared, tested, and cleared again. Assumes nothing.
 use Rattle.tables.specs.Calls.{edition32}
-use Rattle.auditing.proofs.Verdicts.{scratch-short, tested}
+use Rattle.audit_words.proofs.Verdicts.{scratch-short, tested}
 use borrow.Author.Needs.{needs}
 use Rattle.auditing.proofs.behind_gate.Statement.{statement}
 use Rattle.auditing.proofs.behind_gate.Tie as tie

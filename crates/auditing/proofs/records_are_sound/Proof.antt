@@ -2,7 +2,7 @@
 use mathlib.Core.Path.{sym, _∙_}
 use borrow.Author.Tests.{not-true, not-false}
 use Rattle.tables.specs.Calls.{edition32}
-use Rattle.auditing.proofs.Verdicts.{chain-walked, chain-refused, lists-refused, bits-decide}
+use Rattle.audit_words.proofs.Verdicts.{chain-walked, chain-refused, lists-refused, bits-decide}
 use borrow.Author.Needs.{needs}
 use Rattle.auditing.proofs.records_are_sound.Statement.{statement}
 use Rattle.auditing.proofs.records_are_sound.Tie as tie

@@ -6,7 +6,7 @@ use Rattle.tables.specs.Calls.{edition32}
 use Rattle.audit_words.specs.Scratch.{cleared}
 use Rattle.audit_words.specs.Audit.{recordsAreSound}
 use Rattle.audit_words.proofs.Cleared.{marks-cleared}
-use Rattle.auditing.proofs.Verdicts.{no-room, pile-refused, records-decide}
+use Rattle.audit_words.proofs.Verdicts.{no-room, pile-refused, records-decide}
 use native.Mathlib.Omega.{arith}
 use borrow.Author.Needs.{needs}
 use Rattle.auditing.proofs.words_are_sound.Statement.{statement}

@@ -1,5 +1,6 @@
 -- The neighbour before, then the one after. Assumes nothing.
-use Rattle.back_commit.proofs.Drops.{dropped-count, dropped-off, both-dropped}
+use Rattle.tables.specs.Calls.{edition32}
+use Rattle.tables.proofs.Drops.{dropped-count, dropped-off, both-dropped}
 use native.Mathlib.Omega.{arith}
 use borrow.Author.Needs.{needs}
 use Rattle.back_commit.proofs.drop_both.Statement.{statement}
@@ -15,8 +16,8 @@ drop-if-requires-2 c κs =
     let first = c .before .before .before .before .before .before .before .before in
     let start = first .before .before .before .before .before .before .before in
     let a = start .args in
-    let same-count = dropped-count _ (a .prev .link .0) (a .prev .free) (first .drop-if .ensures) in
-    let spares = dropped-off _ (a .prev .link .0) (a .prev .free) (first .drop-if .ensures) in (
+    let same-count = dropped-count edition32 _ (a .prev .link .0) (a .prev .free) (first .drop-if .ensures) in
+    let spares = dropped-off edition32 _ (a .prev .link .0) (a .prev .free) (first .drop-if .ensures) in (
       omega (arith, same-count, first .drop-if .kept, start .pre),
       (
         omega (arith, same-count, first .drop-if .kept, start .pre),
@@ -38,7 +39,8 @@ returns c =
     let second = c .before .before .before .before in
     let first = second .before .before .before .before .before .before .before .before .before in
     let a = first .before .before .before .before .before .before .before .args in
-    both-dropped _ (a .prev .link .0) (a .prev .free) (first .drop-if .ensures) (a .next .link .0) (a .next .free) (second .drop-if2 .ensures)
+    both-dropped edition32 _ (a .prev .link .0) (a .prev .free) (first .drop-if .ensures)
+    (a .next .link .0) (a .next .free) (second .drop-if2 .ensures)
 
 pub drop-both-spec : {M : Type 1} → statement M
 drop-both-spec =

@@ -6,7 +6,7 @@ use mathlib.Core.List.{[]}
 use Rattle.basics.specs.Sum.{one}
 use Rattle.tables.specs.Words.{Words}
 use Rattle.tables.specs.Steps.{pushPile}
-use Rattle.back_commit.proofs.Drops.{unlink-count, unlink-off}
+use Rattle.tables.proofs.Drops.{unlink-count, unlink-off}
 use native.Mathlib.Omega.{arith}
 use borrow.Author.Needs.{needs}
 use Rattle.back_commit.proofs.drop_if.Statement.{statement}

@@ -1,6 +1,7 @@
 -- Both neighbours are dropped, the merged region is put in, the total is set. Assumes nothing.
+use Rattle.tables.specs.Calls.{edition32}
+use Rattle.tables.proofs.Drops.{both-count, merged}
 use Rattle.back_plan.specs.Plan.{mergedIn}
-use Rattle.back_commit.proofs.Drops.{both-count, merged}
 use native.Mathlib.Omega.{arith}
 use borrow.Author.Needs.{needs}
 use Rattle.back_commit.proofs.merge.Statement.{statement}
@@ -17,7 +18,7 @@ insert-node-into-bin-requires c κs =
     let dropped = c .before .before .before .before .before .before .before .before .before .before .before in
     let start = dropped .before .before .before .before .before .before .before in
     let a = start .args in
-    let same-count = both-count _ (a .prev .link .0) (a .next .link .0) (a .prev .free) (a .next .free) (dropped .drop-both .ensures) in
+    let same-count = both-count edition32 _ (a .prev .link .0) (a .next .link .0) (a .prev .free) (a .next .free) (dropped .drop-both .ensures) in
     omega (arith, same-count, dropped .drop-both .kept, start .pre .0, start .pre .1 .1 .record-low)
 
 with-free-storage-requires : tie.Need-with-free-storage-requires
@@ -35,8 +36,8 @@ returns c =
     let dropped = put .before .before .before .before .before .before .before .before .before .before .before .before in
     let a = dropped .before .before .before .before .before .before .before .args in
     rw (c .with-free-storage .ensures)
-    (merged _ (a .prev .link .0) (a .next .link .0) (a .prev .free) (a .next .free) (dropped .drop-both .ensures) (a .m .record .0) (mergedIn (a .m))
-    (put .insert-node-into-bin .ensures _))
+    (merged edition32 _ (a .prev .link .0) (a .next .link .0) (a .prev .free) (a .next .free) (dropped .drop-both .ensures)
+    (a .m .record .0) (mergedIn (a .m)) (put .insert-node-into-bin .ensures _))
 
 pub merge-spec : {M : Type 1} → statement M
 merge-spec =

@@ -1,18 +1,10 @@
 -- A free neighbour is below the count, so its words are in the table. Assumes nothing.
-use Prim.Native.Nat.{ℕ, _≤_, _<_}
-use mathlib.Core.Path.{_≡_, refl, sym, _∙_, subst}
-use mathlib.Core.Bool.{Bool, true}
-use mathlib.Core.List.{List}
-use Rattle.basics.specs.Sum.{one}
-use Rattle.tables.specs.HandBack.{isFree}
-use Rattle.tables.proofs.Guards.{free-low}
+use mathlib.Core.Path.{refl, sym, _∙_}
+use Rattle.tables.proofs.Guards.{free-below}
 use native.Mathlib.Omega.{arith}
 use borrow.Author.Needs.{needs}
 use Rattle.back_plan.proofs.beside.Statement.{statement}
 use Rattle.back_plan.proofs.beside.Tie as tie
-
-free-below : (nodes : List ℕ) (count link : ℕ) → isFree nodes count link ≡ true → link < count
-free-below nodes count link e = free-low nodes count link (subst (λ (b : Bool). 1 ≤ one b) (sym e) (omega arith))
 
 is-free-requires : tie.Need-is-free-requires
 is-free-requires c κs = search needs

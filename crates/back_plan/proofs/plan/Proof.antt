@@ -15,19 +15,19 @@ word-requires : tie.Need-word-requires
 word-requires c κs =
     let test = c in
     let low = live-low _ _ _ (sym (test .before .is-live .ensures) ∙ test .if1 .taken) in
-    omega (arith, low, test .before .before .before .pre)
+    omega (arith, low, test .before .before .before .before .pre)
 
 word-requires-2 : tie.Need-word-requires-2
 word-requires-2 c κs =
     let test = c .before in
     let low = live-low _ _ _ (sym (test .before .is-live .ensures) ∙ test .if1 .taken) in
-    omega (arith, low, test .before .before .before .pre)
+    omega (arith, low, test .before .before .before .before .pre)
 
 word-requires-3 : tie.Need-word-requires-3
 word-requires-3 c κs =
     let test = c .before .before in
     let low = live-low _ _ _ (sym (test .before .is-live .ensures) ∙ test .if1 .taken) in
-    omega (arith, low, test .before .before .before .pre)
+    omega (arith, low, test .before .before .before .before .pre)
 
 beside-requires : tie.Need-beside-requires
 beside-requires c κs = search needs
@@ -39,7 +39,7 @@ word-requires-4 : tie.Need-word-requires-4
 word-requires-4 c κs =
     let test = c .before .before .before .before .before in
     let low = live-low _ _ _ (sym (test .before .is-live .ensures) ∙ test .if1 .taken) in
-    omega (arith, low, test .before .before .before .pre)
+    omega (arith, low, test .before .before .before .before .pre)
 
 plan-merged-requires : tie.Need-plan-merged-requires
 plan-merged-requires c κs = search needs

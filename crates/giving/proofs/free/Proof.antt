@@ -1,11 +1,11 @@
 -- Shut out by the gate, or let in. Assumes nothing.
 use mathlib.Core.List.{[]}
 use Rattle.ledger.specs.Calls.{HandBack}
-use Rattle.tables.specs.Calls.{edition32}
+use Rattle.tables.specs.Calls.{edition32, behind}
+use Rattle.tables.proofs.Gate.{let-in}
 use Rattle.tables.proofs.Promise.{promise}
-use Rattle.bins.specs.InWords.{wordsOf}
-use Rattle.bins.proofs.GateWalk.{shut-out, opened, has-room}
-use Rattle.giving.proofs.Walk.{let-in}
+use Rattle.records.specs.InWords.{wordsOf}
+use Rattle.records.proofs.GateWalk.{shut-out, opened, has-room}
 use borrow.Author.Needs.{needs}
 use Rattle.giving.proofs.free.Statement.{statement}
 use Rattle.giving.proofs.free.Tie as tie
@@ -24,7 +24,7 @@ give-back-requires c κs =
     let told = c .before .before .before .before in
     let tested = told .before .before in
     let a = tested .before .before .before .before .before .args in
-    let room = has-room (wordsOf (a .t) [] [] (a .nodes .now) (a .free-nodes .now)) (tested .test .ensures) (told .enum-told .given .1) in
+    let room = has-room edition32 (wordsOf (a .t) [] [] (a .nodes .now) (a .free-nodes .now)) (tested .test .ensures) (told .enum-told .given .1) in
     (room .nodes-room, room .pile-room)
 
 same-length : tie.Need-same-length
@@ -36,7 +36,7 @@ same-length-2 c = search needs
 returns : tie.Need-returns
 returns c =
     let found = c .before in
-    promise edition32 (HandBack _) _ (shut-out _ (HandBack _) (found .before .before .test .ensures) (found .why .given .1))
+    promise edition32 (HandBack _) _ (shut-out edition32 _ (HandBack _) (found .before .before .test .ensures) (found .why .given .1))
 
 same-length-3 : tie.Need-same-length-3
 same-length-3 c = search needs
@@ -45,11 +45,13 @@ same-length-4 : tie.Need-same-length-4
 same-length-4 c = search needs
 
 returns-2 : tie.Need-returns-2
+unfolding behind
 returns-2 c =
     let went = c .before .before .before .before in
     let told = went .before .before .before .before .before in
     promise edition32 (HandBack _) _
-    (let-in _ _ (opened _ (told .before .before .test .ensures) (told .enum-told .given .1)) (went .give-back .ensures))
+    (let-in edition32 (HandBack _) _ (opened edition32 _ (told .before .before .test .ensures) (told .enum-told .given .1))
+    (went .give-back .ensures))
 
 pub free-spec : {M : Type 1} → statement M
 free-spec =

@@ -1,8 +1,10 @@
 -- Stopped by the plan, or merged; what the commit requires the plan has made sure of. Assumes nothing.
-use mathlib.Core.Path.{sym, ap, _∙_}
+use mathlib.Core.Path.{refl, sym, ap, _∙_}
 use mathlib.Core.List.{[]}
+use Rattle.tables.specs.Calls.{edition32}
+use Rattle.tables.proofs.Commits.{outcome-is, back-stopped}
 use Rattle.back_plan.specs.Plan.{planOf}
-use Rattle.giving.proofs.Walk.{stopped, answered, merged-back, ready}
+use Rattle.giving.proofs.Walk.{merged-back, ready}
 use borrow.Author.Needs.{needs}
 use Rattle.giving.proofs.give_back.Statement.{statement}
 use Rattle.giving.proofs.give_back.Tie as tie
@@ -30,7 +32,7 @@ same-length c = search needs
 returns : tie.Need-returns
 returns c =
     let found = c .before in
-    stopped _ _ (sym (found .before .before .plan .ensures .0 _ _ _) ∙ ap planOf (found .why .given .1))
+    back-stopped edition32 _ _ (sym (found .before .before .plan .ensures .0 _ _ _) ∙ ap planOf (found .why .given .1))
 
 same-length-2 : tie.Need-same-length-2
 same-length-2 c = search needs
@@ -44,7 +46,7 @@ returns-2 c =
     let found = put .before .before .before .before .before .before in
     let plan = found .before .before .plan .ensures in
     let done = put .carry-out .ensures in
-    answered _ (done .0) ∙ merged-back _ _ (plan .0 _ _ _) (plan .1) (found .prev .given .1) (done .1)
+    outcome-is (done .0) refl ∙ merged-back edition32 _ _ (plan .0 _ _ _) (plan .1) (found .prev .given .1) (done .1)
 
 pub give-back-spec : {M : Type 1} → statement M
 give-back-spec =

@@ -4,7 +4,9 @@ use mathlib.Core.List.{[]}
 use Rattle.tables.specs.Words.{Words}
 use Rattle.tables.specs.Steps.{popPile}
 use Rattle.tables.specs.Setup.{blank}
-use Rattle.starting.proofs.Walk.{afresh}
+use Rattle.tables.specs.Calls.{edition32}
+use Rattle.tables.proofs.Commits.{afresh}
+use Rattle.records.specs.declared.totals.Totals.{Totals}
 use native.Mathlib.Omega.{arith}
 use borrow.Author.Needs.{needs}
 use Rattle.starting.proofs.start_afresh.Statement.{statement}
@@ -22,20 +24,24 @@ mark-not-live-requires c κs = search needs
 pile-up-requires : tie.Need-pile-up-requires
 pile-up-requires c κs = search needs
 
-sub-t16 : tie.Need-sub-t16
-sub-t16 c = search needs
+blank-requires : tie.Need-blank-requires
+blank-requires c κs = search needs
 
 pop-requires : tie.Need-pop-requires
-pop-requires c κs = search needs
+pop-requires c κs =
+    let marked = c .before .before .before .before .before .before .before in
+    let start = marked .before .before .before .before .before .before .before .before in
+    omega (arith, ap (λ (t : Totals). t .«free_offset») (c .blank .ensures), start .pre)
 
 one-region-requires : tie.Need-one-region-requires
 unfolding popPile
 one-region-requires c κs =
     let popped = c .before .before .before in
     let t = ap (λ (w : Words). w .count) (popped .pop .ensures [] [] [] []) in
-    let marked = popped .before .before .before .before .before .before .before in
+    let blanked = popped .before in
+    let marked = blanked .before .before .before .before .before .before .before in
     let start = marked .before .before .before .before .before .before .before .before in
-    omega (arith, t, marked .mark-not-live .kept, start .pre)
+    omega (arith, t, ap (λ (t : Totals). t .«max_allocs») (blanked .blank .ensures), marked .mark-not-live .kept, start .pre)
 
 same-length : tie.Need-same-length
 same-length c = search needs
@@ -48,12 +54,13 @@ unfolding blank
 returns c =
     let put = c .before .before in
     let popped = put .before .before .before .before in
-    let piled = popped .before .before .before in
+    let blanked = popped .before in
+    let piled = blanked .before .before .before in
     let marked = piled .before .before .before .before in
     let bits = marked .before .before in
     let tops = bits .before .before in
-    afresh _ _ _ _
-    (rw (piled .pile-up .ensures, marked .mark-not-live .ensures, bits .clear-used-bins .ensures, tops .clear-bin-indices .ensures))
+    afresh edition32 _ _ _ _
+    (rw (blanked .blank .ensures, piled .pile-up .ensures, marked .mark-not-live .ensures, bits .clear-used-bins .ensures, tops .clear-bin-indices .ensures))
     (popped .pop .ensures _ _ _ _)
     (put .one-region .ensures _)
 
@@ -65,7 +72,7 @@ start-afresh-spec =
     clear-used-bins-requires
     mark-not-live-requires
     pile-up-requires
-    sub-t16
+    blank-requires
     pop-requires
     one-region-requires
     same-length

@@ -1,11 +1,14 @@
 -- Shut out by the gate, or started afresh. Assumes nothing.
-use mathlib.Core.Path.{ap, _∙_}
+use mathlib.Core.Path.{refl, ap, _∙_}
 use native.Mathlib.Omega.{arith}
 use Prim.Native.Nat.{ℕ, _<_, _^_}
-use Rattle.tables.specs.Setup.{lentOf, fresh}
+use lib.ListN.{length}
+use Rattle.tables.specs.Setup.{fresh}
 use Rattle.tables.specs.Calls.{edition32}
+use Rattle.tables.proofs.Gate.{open-has-room, sizes-pass, setup-shut, setup-let-in}
+use Rattle.tables.proofs.Commits.{outcome-is}
 use Rattle.tables.proofs.Promise.{setup-promise}
-use Rattle.starting.proofs.Walk.{setup-shut, setup-room, setup-open}
+use Rattle.records.proofs.GateWalk.{open-is-0, shut-is, not-0}
 use borrow.Author.Needs.{needs}
 use Rattle.starting.proofs.with_max_allocs.Statement.{statement}
 use Rattle.starting.proofs.with_max_allocs.Tie as tie
@@ -30,8 +33,8 @@ start-afresh-requires c κs =
     let told = c .before .before .before .before in
     let tested = told .before .before in
     let a = tested .before .before .before .before .before .before .args in
-    let room = setup-room (a .max-allocs)
-    (lentOf (a .bin-indices .now) (a .used-bins .now) (a .nodes .now) (a .free-nodes .now)) (tested .test .ensures) (told .enum-told .given .1) in
+    let room = open-has-room edition32 0 (a .max-allocs) (length (a .nodes .now)) (length (a .free-nodes .now))
+    (open-is-0 (tested .test .ensures) (told .enum-told .given .1)) in
     (room .count-low, (room .nodes-room, room .pile-room))
 
 same-length : tie.Need-same-length
@@ -46,7 +49,10 @@ returns c =
     let tested = found .before .before in
     let measured = tested .before .before .before in
     let fits : measured .before .before .before .args .size .0 < 2 ^ 32 = omega (arith, measured .units-of .ensures, measured .units-of .ok) in
-    setup-promise edition32 _ _ _ fits (c .leave-all .ensures _ _ ∙ setup-shut _ _ _ fits (tested .test .ensures) (found .why .given .1))
+    setup-promise edition32 _ _ _ fits
+    (c .leave-all .ensures _ _
+    ∙ setup-shut edition32 _ _ _ (not-0 (found .why .given .0 .0))
+    (sizes-pass edition32 _ _ _ _ (omega arith) ∙ shut-is (tested .test .ensures) (found .why .given .1)))
 
 same-length-3 : tie.Need-same-length-3
 same-length-3 c = search needs
@@ -63,9 +69,11 @@ returns-2 c =
     let a = measured .before .before .before .args in
     let fits : a .size .0 < 2 ^ 32 = omega (arith, measured .units-of .ensures, measured .units-of .ok) in
     setup-promise edition32 (a .size .0) _ _ fits
-    (setup-open (a .size .0) _ _ fits (tested .test .ensures) (told .enum-told .given .1)
+    (setup-let-in edition32 (a .size .0) _ _
+    (sizes-pass edition32 _ _ _ _ (omega arith) ∙ open-is-0 (tested .test .ensures) (told .enum-told .given .1))
+    (outcome-is refl
     (begun .start-afresh .ensures
-    ∙ ap (λ (n : ℕ). fresh edition32 n (a .max-allocs) (a .nodes .now) (a .free-nodes .now)) (measured .units-of .ensures)))
+    ∙ ap (λ (n : ℕ). fresh edition32 n (a .max-allocs) (a .nodes .now) (a .free-nodes .now)) (measured .units-of .ensures))))
 
 pub with-max-allocs-spec : {M : Type 1} → statement M
 with-max-allocs-spec =

@@ -1,22 +1,16 @@
 -- The commit of `split`: the region is granted, then the remainder put in. Assumes nothing.
-use Prim.Native.Nat.{ℕ, _+_, _-_}
-use mathlib.Core.Path.{_≡_, ap, _∙_}
+use Prim.Native.Nat.{_-_}
+use mathlib.Core.Path.{ap, _∙_}
 use mathlib.Core.List.{[]}
-use Rattle.tables.specs.Layout.{neighborNext, word}
 use Rattle.tables.specs.Words.{Words, withTotal}
-use Rattle.tables.specs.Steps.{insert, unlinkAt, popPile}
-use Rattle.tables.specs.Take.{granting, splitting}
-use Rattle.bins.specs.InWords.{bound}
+use Rattle.tables.specs.Steps.{unlinkAt, popPile}
+use Rattle.tables.specs.Take.{granting}
+use Rattle.tables.specs.Calls.{edition32}
+use Rattle.tables.proofs.Commits.{remainder-put}
 use native.Mathlib.Omega.{arith}
 use borrow.Author.Needs.{needs}
 use Rattle.take_commit.proofs.grant_part.Statement.{statement}
 use Rattle.take_commit.proofs.grant_part.Tie as tie
-
-split-step : (w u v : Words) (s c r o rest m next : ℕ) → u ≡ granting (bound (w .count)) w s c r → v ≡ popPile u
-    → next ≡ word (w .nodes) neighborNext r
-    → insert (bound (v .count)) v rest (o + s) m r next ≡ splitting (bound (w .count)) w s c r o rest m
-unfolding splitting granting popPile unlinkAt
-split-step w u v s c r o rest m next eu ev en = rw (ev, eu, en)
 
 sub-left : tie.Need-sub-left
 sub-left c = search needs
@@ -66,7 +60,7 @@ returns c ps =
     rw (c .with-free-storage .ensures)
     (ap (λ (v : Words). withTotal v (a .t .«free_storage» - a .size .0))
     (put-in .insert-node-into-bin .ensures ps
-    ∙ split-step _ _ _ _ _ _ _ _ _ _ (live .make-live .ensures ps) (popped .pop .ensures _ _ _ ps) (linked .word .ensures)))
+    ∙ remainder-put edition32 _ _ _ _ _ _ _ _ _ _ (live .make-live .ensures ps) (popped .pop .ensures _ _ _ ps) (linked .word .ensures)))
 
 pub grant-part-spec : {M : Type 1} → statement M
 grant-part-spec =

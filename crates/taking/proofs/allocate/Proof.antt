@@ -2,11 +2,12 @@
 use mathlib.Core.Path.{_∙_}
 use mathlib.Core.List.{[]}
 use Rattle.ledger.specs.Calls.{Take}
-use Rattle.tables.specs.Calls.{edition32}
+use Rattle.tables.specs.Calls.{edition32, behind}
+use Rattle.tables.proofs.Gate.{let-in}
 use Rattle.tables.proofs.Promise.{promise}
-use Rattle.bins.specs.InWords.{wordsOf}
-use Rattle.bins.proofs.GateWalk.{shut-out, opened, has-room}
-use Rattle.taking.proofs.Walk.{outcome, let-in}
+use Rattle.records.specs.InWords.{wordsOf}
+use Rattle.records.proofs.GateWalk.{shut-out, opened, has-room}
+use Rattle.records.proofs.Outcome.{outcome}
 use borrow.Author.Needs.{needs}
 use Rattle.taking.proofs.allocate.Statement.{statement}
 use Rattle.taking.proofs.allocate.Tie as tie
@@ -28,7 +29,7 @@ take-requires c κs =
     let told = c .before .before .before in
     let tested = told .before .before in
     let a = tested .before .before .before .before .args in
-    let room = has-room (wordsOf (a .t) [] [] (a .nodes .now) (a .free-nodes .now)) (tested .test .ensures) (told .enum-told .given .1) in
+    let room = has-room edition32 (wordsOf (a .t) [] [] (a .nodes .now) (a .free-nodes .now)) (tested .test .ensures) (told .enum-told .given .1) in
     (room .nodes-room, room .pile-room)
 
 same-length : tie.Need-same-length
@@ -40,18 +41,19 @@ returns c =
     let tested = found .before .before in
     promise edition32 (Take _) _
     (outcome _ _ _ _ (c .refuse .ensures .0) (c .refuse .ensures .1)
-    ∙ shut-out _ (Take _) (tested .test .ensures) (found .why .given .1))
+    ∙ shut-out edition32 _ (Take _) (tested .test .ensures) (found .why .given .1))
 
 same-length-2 : tie.Need-same-length-2
 same-length-2 c = search needs
 
 returns-2 : tie.Need-returns-2
+unfolding behind
 returns-2 c =
     let took = c .before .before in
     let told = took .before .before .before .before in
     let tested = told .before .before in
     promise edition32 (Take _) _
-    (let-in edition32 _ _ _ _ (opened _ (tested .test .ensures) (told .enum-told .given .1)) (took .take .ensures))
+    (let-in edition32 (Take _) _ (opened edition32 _ (tested .test .ensures) (told .enum-told .given .1)) (took .take .ensures))
 
 pub allocate-spec : {M : Type 1} → statement M
 allocate-spec =

@@ -1,9 +1,9 @@
 -- Each arm of the plan is the model's, and what its commit requires the plan has made sure of. Assumes nothing.
 use mathlib.Core.Path.{sym, ap, _∙_}
 use Rattle.tables.specs.Calls.{edition32}
+use Rattle.tables.proofs.Commits.{take-stopped, taken-whole, taken-part, whole-ready, split-ready}
 use Rattle.take_plan.specs.Plan.{planOf}
-use Rattle.taking.proofs.Ready.{whole-ready, split-ready}
-use Rattle.taking.proofs.Walk.{outcome, stopped, taken-whole, taken-part}
+use Rattle.records.proofs.Outcome.{outcome}
 use native.Mathlib.Omega.{arith}
 use borrow.Author.Needs.{needs}
 use Rattle.taking.proofs.take.Statement.{statement}
@@ -25,7 +25,7 @@ grant-whole-requires : tie.Need-grant-whole-requires
 grant-whole-requires c κs =
     let found = c .before .before .before .before in
     let planned = found .before .before in
-    (omega arith, whole-ready _ _ _ _ _ (sym (planned .plan .ensures) ∙ ap planOf (found .region .given .1)))
+    (omega arith, whole-ready _ (sym (planned .plan .ensures) ∙ ap planOf (found .region .given .1)))
 
 grant-requires : tie.Need-grant-requires
 grant-requires c κs = search needs
@@ -37,7 +37,7 @@ grant-part-requires : tie.Need-grant-part-requires
 grant-part-requires c κs =
     let found = c .before .before .before .before in
     let planned = found .before .before in
-    (omega arith, split-ready _ _ _ _ _ (sym (planned .plan .ensures) ∙ ap planOf (found .region2 .given .1)))
+    (omega arith, split-ready _ (sym (planned .plan .ensures) ∙ ap planOf (found .region2 .given .1)))
 
 grant-requires-2 : tie.Need-grant-requires-2
 grant-requires-2 c κs = search needs
@@ -50,7 +50,7 @@ returns c =
     let found = c .before .before in
     let planned = found .before .before in
     outcome _ _ _ _ (c .refuse .ensures .0) (c .refuse .ensures .1)
-    ∙ stopped edition32 _ _ (sym (planned .plan .ensures) ∙ ap planOf (found .why .given .1))
+    ∙ take-stopped edition32 _ _ (sym (planned .plan .ensures) ∙ ap planOf (found .why .given .1))
 
 same-length-2 : tie.Need-same-length-2
 same-length-2 c = search needs

@@ -1,16 +1,14 @@
 // The list of runs, replayed: each row's call is made in place and by value, or in one of the forms, each on tables of its own, and a row agrees only
 // if every form that is made answers as it says.
-use bins::totals::Totals;
-use calling::by_value;
-use calling::in_place;
-use judging::call::Call;
+use call_values::call::Call;
 use libc::STDIN_FILENO;
 use offset_allocator::head::Head;
+use records::totals::Totals;
 use replay::rows::Reader;
 use replay::tally::Tally;
-use telling::forms::Forms;
-use telling::full;
-use telling::rows;
+use run_rows::asked;
+use run_rows::forms::Forms;
+use run_rows::full;
 
 // The list read so far, the tally of its rows, how many classes of a full report came just before, and what each form keeps beside its arrays
 // and tables.
@@ -25,13 +23,7 @@ pub struct Replay {
 
 // Before the first setup: a head of zeros, on which every call is refused.
 fn begin(forms: Forms) -> Replay {
-    let zeros = Totals {
-        size: 0,
-        max_allocs: 0,
-        free_storage: 0,
-        free_offset: 0,
-        used_bins_top: 0,
-    };
+    let zeros = Totals::zeros();
     let used_bins = [0u8; 32];
     let bin_indices = [0u32; 256];
     Replay {
@@ -49,14 +41,19 @@ fn begin(forms: Forms) -> Replay {
 }
 
 // What both forms answered to the row's call, held against the row and counted.
-fn count(replay: Replay, call: Call, placed: in_place::Called, valued: by_value::Called) -> Replay {
+fn count(
+    replay: Replay,
+    call: Call,
+    placed: calling_in_place::Called,
+    valued: asking_by_value::Called,
+) -> Replay {
     let row = replay.reader;
     let forms = replay.forms;
     let tally = replay.tally;
     let in_place = placed.answer;
     let by_value = valued.answer;
-    let first = replay::calls::judge(row, rows::said(call, in_place));
-    let second = replay::calls::judge(row, rows::said(call, by_value));
+    let first = call_verdicts::judge(row, answer_rows::said(call, in_place));
+    let second = call_verdicts::judge(row, answer_rows::said(call, by_value));
     let verdict = full::whole_report(row, replay.classes, forms.verdict(first, second));
     let totals = placed.totals;
     let head = valued.head;
@@ -78,10 +75,10 @@ fn make_in_place(
     used_bins: &mut [u8; 32],
     nodes: &mut [u32],
     free_nodes: &mut [u32],
-) -> in_place::Called {
+) -> calling_in_place::Called {
     let forms = replay.forms;
     let t = replay.totals;
-    in_place::make(
+    calling_in_place::make(
         forms.call_in_place(call),
         t,
         bin_indices,
@@ -97,10 +94,10 @@ fn make_by_value(
     call: Call,
     nodes: &mut [u32],
     free_nodes: &mut [u32],
-) -> by_value::Called {
+) -> asking_by_value::Called {
     let forms = replay.forms;
     let head = replay.head;
-    by_value::make(forms.call_by_value(call), head, nodes, free_nodes)
+    calling_by_value::make(forms.call_by_value(call), head, nodes, free_nodes)
 }
 
 // A whole row: its call is made in each form that is replayed, and the answers are judged.
@@ -113,7 +110,7 @@ fn replay_row(
     value_nodes: &mut [u32],
     value_free_nodes: &mut [u32],
 ) -> Replay {
-    let call = rows::call_of(replay.reader);
+    let call = asked::call_of(replay.reader);
     let placed = make_in_place(replay, call, bin_indices, used_bins, nodes, free_nodes);
     let valued = make_by_value(replay, call, value_nodes, value_free_nodes);
     count(replay, call, placed, valued)

@@ -1,6 +1,6 @@
 // The call that is made on a line of the table, its arguments drawn from a seed.
 use crate::spoiled::garbage;
-use judging::call::Call;
+use call_values::call::Call;
 
 // The lines of the table that is printed.
 pub const SET_UP: u32 = 0;

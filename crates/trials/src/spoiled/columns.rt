@@ -1,5 +1,5 @@
 // Where a call is counted: 0 for the calls that were carried out, a refusal's number for those refused, or one of the next two.
-use judging::answer::Answer;
+use call_values::answer::Answer;
 
 // Carried out on tables that the audit calls sound, in spite of what was overwritten.
 pub const ON_SOUND: u32 = 7;

@@ -1,8 +1,8 @@
 // Words, bytes and scalars that are drawn: at random, or so that links often name a record and now and then lead nowhere.
 ghost use Prim.Native.Nat.{_≤_};
-use bins::nodes::NONE;
-use bins::totals::Totals;
-use judging::store::RECORDS;
+use call_values::store::RECORDS;
+use records::nodes::NONE;
+use records::totals::Totals;
 
 // A seed for each word of a table: three on, so that no two words share one.
 fn third_next(seed: u32) -> u32 {

@@ -1,7 +1,7 @@
 // The table of what came of the calls, written to standard output.
 use crate::spoiled::arguments;
 use crate::spoiled::columns;
-use judging::tally::Tally;
+use counting::Tally;
 use libc::STDOUT_FILENO;
 
 fn write(text: &[u8]) {

@@ -3,14 +3,12 @@ use crate::spoiled::arguments;
 use crate::spoiled::columns;
 use crate::spoiled::printing;
 use crate::spoiled::spoiling;
-use calling::copies;
-use judging::audits;
-use judging::audits::Audited;
-use judging::call::Call;
+use call_values::call::Call;
+use call_values::made::Made;
+use call_values::store::Store;
+use counting::Tally;
 use judging::checks;
-use judging::made::Made;
-use judging::store::Store;
-use judging::tally::Tally;
+use judging_audits::Audited;
 
 // The tables that a round's calls are made on, and whether the audit calls them sound in spite of all.
 struct Round {
@@ -41,7 +39,7 @@ fn count_form(
 // that is lent such.
 fn alike_in_place(call: Call, lent: Store, placed: Made) -> Made {
     if checks::is_setup(call) {
-        return copies::in_place(call, lent);
+        return calling_on_copies::in_place(call, lent);
     }
     placed
 }
@@ -49,10 +47,10 @@ fn alike_in_place(call: Call, lent: Store, placed: Made) -> Made {
 // Both forms of a call, each on its own copy.
 fn make_call(tally: Tally, line: u32, call: Call, round: Round) -> Tally {
     let before = round.before;
-    let placed = copies::in_place(call, before);
+    let placed = calling_on_copies::in_place(call, before);
     let first = count_form(tally, line, call, round, before, placed);
     let lent = checks::lent_by_value(call, before);
-    let valued = copies::by_value(call, before);
+    let valued = calling_on_copies::by_value(call, before);
     let both = count_form(first, line, call, round, lent, valued);
     both.compare(checks::differ(alike_in_place(call, lent, placed), valued))
 }
@@ -64,7 +62,7 @@ fn count_audit(tally: Tally, round: Round, audited: Audited) -> Tally {
     tally.count(
         arguments::AUDIT,
         columns::column(answer, round.on_sound),
-        audits::has_changed(before, audited),
+        judging_audits::has_changed(before, audited),
         false,
     )
 }
@@ -72,11 +70,11 @@ fn count_audit(tally: Tally, round: Round, audited: Audited) -> Tally {
 // Both forms of the audit.
 fn make_audit(tally: Tally, round: Round) -> Tally {
     let before = round.before;
-    let placed = copies::audit_in_place(before);
-    let valued = copies::audit_by_value(before);
+    let placed = calling_on_copies::audit_in_place(before);
+    let valued = calling_on_copies::audit_by_value(before);
     let first = count_audit(tally, round, placed);
     let both = count_audit(first, round, valued);
-    both.compare(audits::differ(placed, valued))
+    both.compare(judging_audits::differ(placed, valued))
 }
 
 // Every call once, in both forms.
@@ -92,7 +90,7 @@ fn make_calls(tally: Tally, round: Round, seed: u32) -> Tally {
 }
 
 fn is_sound(store: Store) -> bool {
-    let audited = copies::audit_in_place(store);
+    let audited = calling_on_copies::audit_in_place(store);
     let made = audited.made;
     let answer = made.answer;
     columns::column(answer, false) == 0

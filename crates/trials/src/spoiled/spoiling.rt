@@ -1,18 +1,11 @@
 // Heads and tables that are not sound, each from a seed: at random, of likely links, or a true store of which a few words are overwritten.
 use crate::spoiled::garbage;
-use bins::totals::Totals;
-use calling::copies;
-use judging::call::Call;
-use judging::store::Store;
+use call_values::call::Call;
+use call_values::store::Store;
+use records::totals::Totals;
 
 fn blank() -> Store {
-    let totals = Totals {
-        size: 0,
-        max_allocs: 0,
-        free_storage: 0,
-        free_offset: 0,
-        used_bins_top: 0,
-    };
+    let totals = Totals::zeros();
     Store {
         totals,
         bin_indices: [0u32; 256],
@@ -75,14 +68,14 @@ fn step(seed: u32, size: u32) -> Call {
 fn sound(seed: u32) -> Store {
     let size = draws::below(draws::branch(seed, 1), 65536);
     let set_up = Call::SetUp(size, garbage::good_count(draws::branch(seed, 2)));
-    let first = copies::in_place(set_up, blank());
+    let first = calling_on_copies::in_place(set_up, blank());
     let mut store = first.after;
     let steps = draws::below(draws::branch(seed, 3), 16);
     let stem = draws::branch(seed, 4);
     let mut i = 0u32;
     while i < steps {
         i += 1;
-        let made = copies::in_place(step(draws::branch(stem, i), size), store);
+        let made = calling_on_copies::in_place(step(draws::branch(stem, i), size), store);
         store = made.after;
     }
     store
@@ -102,20 +95,8 @@ fn spoil_word(old: u32, seed: u32) -> u32 {
 fn spoil_totals(t: Totals, seed: u32) -> Totals {
     let drawn = draws::next(seed);
     match draws::below(seed, 5) {
-        0 => Totals {
-            size: spoil_word(t.size, drawn),
-            max_allocs: t.max_allocs,
-            free_storage: t.free_storage,
-            free_offset: t.free_offset,
-            used_bins_top: t.used_bins_top,
-        },
-        1 => Totals {
-            size: t.size,
-            max_allocs: spoil_word(t.max_allocs, drawn),
-            free_storage: t.free_storage,
-            free_offset: t.free_offset,
-            used_bins_top: t.used_bins_top,
-        },
+        0 => t.with_size(spoil_word(t.size, drawn)),
+        1 => t.with_max_allocs(spoil_word(t.max_allocs, drawn)),
         2 => t.with_free_storage(spoil_word(t.free_storage, drawn)),
         3 => t.with_free_offset(spoil_word(t.free_offset, drawn)),
         _ => t.with_used_bins_top(spoil_word(t.used_bins_top, drawn)),

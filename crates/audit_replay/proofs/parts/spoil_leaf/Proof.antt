@@ -1,16 +1,16 @@
 -- The byte is put back. Assumes nothing.
 use mathlib.Core.Path.{refl}
 use lib.Seq.{set-set, set-getD}
-use Rattle.basics.proofs.Clash.{clash}
+use Rattle.audit_verdicts.proofs.Means.{never-agrees}
 use borrow.Author.Needs.{needs}
 use Rattle.audit_replay.proofs.parts.spoil_leaf.Statement.{statement}
 use Rattle.audit_replay.proofs.parts.spoil_leaf.Tie as tie
 
 returns : tie.Need-returns
-returns c = ((λ e. clash (cc)), refl)
+returns c = ((λ e. never-agrees e), refl)
 
 returns-2 : tie.Need-returns-2
-returns-2 c = ((λ e. clash (cc)), refl)
+returns-2 c = ((λ e. never-agrees e), refl)
 
 element-copy-out-old : tie.Need-element-copy-out-old
 element-copy-out-old c = search needs

@@ -1,13 +1,13 @@
 -- The word is put back. Assumes nothing.
 use mathlib.Core.Path.{refl}
 use lib.Seq.{set-set, set-getD}
-use Rattle.basics.proofs.Clash.{clash}
+use Rattle.audit_verdicts.proofs.Means.{never-agrees}
 use borrow.Author.Needs.{needs}
 use Rattle.audit_replay.proofs.parts.spoil_node.Statement.{statement}
 use Rattle.audit_replay.proofs.parts.spoil_node.Tie as tie
 
 returns : tie.Need-returns
-returns c = ((λ e. clash (cc)), refl)
+returns c = ((λ e. never-agrees e), refl)
 
 mul-old : tie.Need-mul-old
 mul-old c = search needs

@@ -1,11 +1,11 @@
 -- The scalar is put for this audit alone. Assumes nothing.
-use Rattle.basics.proofs.Clash.{clash}
+use Rattle.audit_verdicts.proofs.Means.{never-agrees}
 use borrow.Author.Needs.{needs}
 use Rattle.audit_replay.proofs.parts.spoil_total.Statement.{statement}
 use Rattle.audit_replay.proofs.parts.spoil_total.Tie as tie
 
 returns : tie.Need-returns
-returns c = λ e. clash (cc)
+returns c = λ e. never-agrees e
 
 put-total-requires : tie.Need-put-total-requires
 put-total-requires c κs = search needs

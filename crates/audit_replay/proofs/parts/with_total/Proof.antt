@@ -1,17 +1,25 @@
 -- By the index. Assumes nothing.
 use borrow.Author.Tests.{eq-eqb, ne-eqb}
-use Rattle.audit_replay.specs.Audited.{totalPut}
+use Rattle.audit_replay.specs.Placed.{totalPut}
 use borrow.Author.Needs.{needs}
 use Rattle.audit_replay.proofs.parts.with_total.Statement.{statement}
 use Rattle.audit_replay.proofs.parts.with_total.Tie as tie
 
+with-size-requires : tie.Need-with-size-requires
+with-size-requires c κs = search needs
+
 returns : tie.Need-returns
 unfolding totalPut
-returns c = rw (eq-eqb _ 0 (c .if1 .taken))
+returns c = rw (eq-eqb _ 0 (c .before .if1 .taken)) (c .with-size .ensures)
+
+with-max-allocs-requires : tie.Need-with-max-allocs-requires
+with-max-allocs-requires c κs = search needs
 
 returns-2 : tie.Need-returns-2
 unfolding totalPut
-returns-2 c = rw (ne-eqb _ 0 (c .before .if1 .left), eq-eqb _ 1 (c .if2 .taken))
+returns-2 c =
+    let k = c .before in
+    rw (ne-eqb _ 0 (k .before .if1 .left), eq-eqb _ 1 (k .if2 .taken)) (c .with-max-allocs .ensures)
 
 with-free-storage-requires : tie.Need-with-free-storage-requires
 with-free-storage-requires c κs = search needs
@@ -65,7 +73,9 @@ pub with-total-spec : {M : Type 1} → statement M
 with-total-spec =
     tie.close
     (tie.spec
+    with-size-requires
     returns
+    with-max-allocs-requires
     returns-2
     with-free-storage-requires
     returns-3

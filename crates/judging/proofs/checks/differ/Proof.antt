@@ -2,9 +2,9 @@
 use borrow.Author.Needs.{needs}
 use mathlib.Core.Path.{sym, ap}
 use borrow.Author.Tests.{not-true, not-false}
-use Rattle.judging.specs.declared.made.Made.{Made}
+use Rattle.call_values.specs.declared.made.Made.{Made}
 use Rattle.basics.proofs.Clash.{no-is-not-yes, no-and-yes}
-use Rattle.judging.proofs.SameFields.{same-made}
+use Rattle.judging.proofs.SameMade.{same-made}
 use Rattle.judging.proofs.checks.differ.Statement.{statement}
 use Rattle.judging.proofs.checks.differ.Tie as tie
 

@@ -1,5 +1,8 @@
 -- By cases of the answer; a grant is judged as its span is. Assumes nothing.
+use mathlib.Core.Path.{sym, ap, _∙_}
 use borrow.Author.Needs.{needs}
+use Rattle.call_values.specs.declared.answer.Answer.{Answer}
+use Rattle.judging.specs.Judged.{grantOutside}
 use Rattle.judging.proofs.checks.grant_is_outside.Statement.{statement}
 use Rattle.judging.proofs.checks.grant_is_outside.Tie as tie
 
@@ -34,7 +37,10 @@ returns : tie.Need-returns
 returns c = search needs
 
 returns-2 : tie.Need-returns-2
-returns-2 c = cc
+returns-2 c =
+    let given = c .before .before .before .before .args in
+    c .span-is-outside .ensures .2
+    ∙ sym (ap (λ (a : Answer). grantOutside a (given .size) (given .store)) (c .before .before .answer .given .1))
 
 returns-3 : tie.Need-returns-3
 returns-3 c = search needs

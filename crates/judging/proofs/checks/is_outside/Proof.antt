@@ -1,5 +1,8 @@
 -- By cases of the call; a take is judged as its answer is. Assumes nothing.
+use mathlib.Core.Path.{sym, ap, _∙_}
 use borrow.Author.Needs.{needs}
+use Rattle.call_values.specs.declared.call.Call.{Call}
+use Rattle.judging.specs.Judged.{isOutside}
 use Rattle.judging.proofs.checks.is_outside.Statement.{statement}
 use Rattle.judging.proofs.checks.is_outside.Tie as tie
 
@@ -40,7 +43,10 @@ returns-2 : tie.Need-returns-2
 returns-2 c = search needs
 
 returns-3 : tie.Need-returns-3
-returns-3 c = cc
+returns-3 c =
+    let given = c .before .before .before .before .args in
+    c .grant-is-outside .ensures
+    ∙ sym (ap (λ (x : Call). isOutside x (given .answer) (given .store)) (c .before .before .call .given .1))
 
 returns-4 : tie.Need-returns-4
 returns-4 c = search needs

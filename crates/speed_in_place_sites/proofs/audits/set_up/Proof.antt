@@ -10,6 +10,9 @@ Inv-loop times bin-indices₀ used-bins₀ nodes₀ free-nodes₀ t₀ i₀ bin-
 abbrev μ-loop : tie.MeasureT-loop
 μ-loop times bin-indices₀ used-bins₀ nodes₀ free-nodes₀ t₀ i₀ bin-indices used-bins nodes free-nodes t i = times - i
 
+zeros-requires : tie.Need-zeros-requires Inv-loop μ-loop
+zeros-requires c κs = tt
+
 loop-holds : tie.Need-loop-holds Inv-loop μ-loop
 loop-holds c = omega arith
 
@@ -34,6 +37,7 @@ set-up-spec =
     (tie.spec
     Inv-loop
     μ-loop
+    zeros-requires
     loop-holds
     add-i
     with-max-allocs-requires

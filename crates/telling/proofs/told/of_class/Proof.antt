@@ -9,8 +9,8 @@ use Rattle.answers.specs.declared.Refusal.{Refusal}
 use Rattle.answers.specs.Refusals.{numberOf}
 use Rattle.answers.specs.declared.FullOutcome.{FullOutcome}
 use Rattle.answers.specs.declared.FullOutcome.the-variants.{Counted, Refused}
-use Rattle.judging.specs.declared.answer.Answer.{Answer}
-use Rattle.judging.specs.declared.answer.Answer.the-variants as answer
+use Rattle.call_values.specs.declared.answer.Answer.{Answer}
+use Rattle.call_values.specs.declared.answer.Answer.the-variants as answer
 use Rattle.answers.specs.Answers.{columns, outcomeSays}
 use Rattle.telling.specs.Told.{toldAs, classIn}
 use Rattle.telling.proofs.Columns.{at-column}

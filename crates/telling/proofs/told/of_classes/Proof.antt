@@ -1,12 +1,12 @@
 -- By cases of the answer. Assumes nothing.
 use Prim.Native.Nat.{ℕ}
-use mathlib.Core.Path.{_≡_}
+use mathlib.Core.Path.{_≡_, sym, ap, _∙_}
 use mathlib.Core.List.{List}
 use Rattle.answers.specs.Answers.{columns, outcomeSays}
 use Rattle.answers.specs.declared.FullOutcome.{FullOutcome}
 use Rattle.answers.specs.declared.FullOutcome.the-variants.{Counted}
-use Rattle.judging.specs.declared.answer.Answer.{Answer}
-use Rattle.judging.specs.declared.answer.Answer.the-variants as answer
+use Rattle.call_values.specs.declared.answer.Answer.{Answer}
+use Rattle.call_values.specs.declared.answer.Answer.the-variants as answer
 use Rattle.telling.specs.Told.{toldAs, heldIn, classesHeld}
 use borrow.Author.Needs.{needs}
 use Rattle.telling.proofs.told.of_classes.Statement.{statement}
@@ -34,7 +34,10 @@ returns c =
     counted _ _ _ _ (c .before .before .enum-told .given .1) (c .count-held .ensures (full .sizes))
 
 returns-2 : tie.Need-returns-2
-returns-2 c = cc
+returns-2 c =
+    let full = c .before .before .before .before .before .args .full in
+    ap answer.Refused (c .number .ensures)
+    ∙ sym (ap (λ (o : FullOutcome). toldAs heldIn (outcomeSays o (full .sizes) (full .counts))) (c .before .before .outcome .given .1))
 
 pub of-classes-spec : {M : Type 1} → statement M
 of-classes-spec =

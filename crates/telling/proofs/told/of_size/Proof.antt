@@ -1,5 +1,10 @@
 -- By cases of the answer. Assumes nothing.
+use mathlib.Core.Path.{sym, ap, _∙_}
 use borrow.Author.Needs.{needs}
+use Rattle.answers.specs.declared.SizeAnswer.{SizeAnswer}
+use Rattle.answers.specs.Answers.{sizeSays}
+use Rattle.call_values.specs.declared.answer.Answer.the-variants as answer
+use Rattle.telling.specs.Told.{told}
 use Rattle.telling.proofs.told.of_size.Statement.{statement}
 use Rattle.telling.proofs.told.of_size.Tie as tie
 
@@ -13,10 +18,12 @@ number-requires : tie.Need-number-requires
 number-requires c κs = search needs
 
 returns : tie.Need-returns
-returns c = cc
+returns c = sym (ap (λ (a : SizeAnswer). told (sizeSays a)) (c .before .answer .given .1))
 
 returns-2 : tie.Need-returns-2
-returns-2 c = cc
+returns-2 c =
+    ap answer.Refused (c .number .ensures)
+    ∙ sym (ap (λ (a : SizeAnswer). told (sizeSays a)) (c .before .before .answer2 .given .1))
 
 pub of-size-spec : {M : Type 1} → statement M
 of-size-spec =

@@ -1,0 +1,2 @@
+-- Numbers: an answer as numbers.
+pub mod Numbers

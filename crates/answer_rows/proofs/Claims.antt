@@ -1,0 +1,27 @@
+-- The claims, made. Assumes nothing.
+use mathlib.Core.Path.{refl}
+use Rattle.replay.specs.Facts.{withNumbers}
+use Rattle.run_rows.specs.Asked.{isRow, questionOf, callOf}
+use Rattle.answer_rows.specs.Claims.{RowClaims}
+use Rattle.answer_rows.proofs.Agreeing.{agrees-with, x-agrees-with, listed-with, listed-is-5}
+
+pub row-claims : RowClaims
+unfolding callOf questionOf isRow withNumbers
+row-claims = record {
+  n-asks = λ size count. refl;
+  z-asks = refl;
+  t-asks = λ size offset number. refl;
+  x-asks = λ size. refl;
+  f-asks = λ number. refl;
+  b-asks = λ number. refl;
+  l-asks = λ number length. refl;
+  u-asks = λ number length. refl;
+  r-asks = λ total largest. refl;
+  g-asks = λ class value regions. refl;
+  e-asks = λ classes. refl;
+  asks-means = λ letter numbers c e. e;
+  agrees-with = agrees-with;
+  x-agrees-with = x-agrees-with;
+  listed-with = listed-with;
+  listed-is-5 = listed-is-5;
+}

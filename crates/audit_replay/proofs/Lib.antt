@@ -1,2 +1,0 @@
--- Means: what a row that agrees tells.
-pub mod Means

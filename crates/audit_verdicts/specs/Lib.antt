@@ -1,0 +1,2 @@
+-- Audited: what a row that audits is held against.
+pub mod Audited

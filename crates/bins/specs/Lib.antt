@@ -1,2 +1,0 @@
--- How the code's values make the words of tables/specs.
-pub mod InWords

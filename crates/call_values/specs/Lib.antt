@@ -1,0 +1,2 @@
+-- Stores: a store with totals or arrays of zeros.
+pub mod Stores

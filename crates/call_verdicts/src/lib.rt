@@ -1,0 +1,62 @@
+// The list of runs: what the Rust answered, held against what the port answers.
+ghost use mathlib.Core.Path.{_≡_};
+ghost use Rattle.call_verdicts.specs.Verdicts.{sameNumbers, callVerdict, bothVerdict};
+use replay::rows::Reader;
+use replay::tally::Verdict;
+
+// The row that the port would write for a call: its letter and its last two numbers, 0 where it has fewer. The number before the last has
+// 64 bits, as the value of a class has.
+pub struct Said {
+    pub letter: u8,
+    pub c: u64,
+    pub d: u32,
+}
+
+// The two last numbers are the same; the last one is not compared where the Rust's means nothing.
+fn judge_numbers(row: Reader, said: Said) -> Verdict
+    ensures { λ v. ⌜ v ≡ sameNumbers row said ⌝ }
+{
+    if (row.c as u64) != said.c {
+        return Verdict::Differs;
+    }
+    if row.letter == b'u' {
+        return Verdict::Listed;
+    }
+    if row.d != said.d {
+        return Verdict::Differs;
+    }
+    if row.letter == b'b' {
+        return Verdict::Listed;
+    }
+    Verdict::Agrees
+}
+
+// One form's answer. `b RECORD` and `u RECORD LENGTH` are the listed differences: the record is not live, and where the port refuses the
+// Rust panics, or gives a length that means nothing.
+pub fn judge(row: Reader, said: Said) -> Verdict
+    ensures { λ v. ⌜ v ≡ callVerdict row said ⌝ }
+{
+    if row.letter != said.letter {
+        return Verdict::Differs;
+    }
+    judge_numbers(row, said)
+}
+
+// Both forms' verdicts on one row: what they are, if they are the same.
+pub fn both(first: Verdict, second: Verdict) -> Verdict
+    ensures { λ v. ⌜ v ≡ bothVerdict first second ⌝ }
+{
+    match first {
+        Verdict::Agrees => match second {
+            Verdict::Agrees => Verdict::Agrees,
+            Verdict::Listed => Verdict::Differs,
+            Verdict::Differs => Verdict::Differs,
+        },
+        Verdict::Listed => match second {
+            Verdict::Agrees => Verdict::Differs,
+            Verdict::Listed => Verdict::Listed,
+            Verdict::Differs => Verdict::Differs,
+        },
+        Verdict::Differs => Verdict::Differs,
+    }
+}

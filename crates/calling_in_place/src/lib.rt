@@ -1,0 +1,232 @@
+// The calls in place: the scalars of the head by value, its two arrays and the tables lent.
+ghost use mathlib.Core.Path.{_≡_};
+ghost use Rattle.tables.specs.Words.{Words};
+ghost use Rattle.records.specs.InWords.{wordsOf};
+ghost use Rattle.call_values.specs.declared.answer.Answer.{Answer as Told};
+ghost use Rattle.call_values.specs.declared.call.Call.the-variants.{SetUp, Reset, Take, HandBack, SizeOf, Report, ClassOf, ClassesHeld};
+ghost use Rattle.telling.specs.Made.{made, inPlace};
+use answers::Allocation;
+use answers::Handle;
+use call_values::answer::Answer;
+use call_values::call::Call;
+use records::totals::Totals;
+use small_float::Size;
+use telling::told;
+
+pub struct Called {
+    pub answer: Answer,
+    pub totals: Totals,
+}
+
+fn set_up(
+    size: u32,
+    count: u32,
+    bin_indices: &mut [u32; 256],
+    used_bins: &mut [u8; 32],
+    nodes: &mut [u32],
+    free_nodes: &mut [u32],
+) -> Called
+    ensures { λ r. ⌜ ((t : Totals) → _≡_ {A = Told × Words}
+        (r .answer, wordsOf (r .totals) (now («bin_indices» .exit)) (now («used_bins» .exit)) (now (nodes .exit)) (now («free_nodes» .exit)))
+        (made inPlace (SetUp size count)
+        (wordsOf t (now («bin_indices» .entry)) (now («used_bins» .entry)) (now (nodes .entry)) (now («free_nodes» .entry))))) ⌝ }
+{
+    let started = starting::with_max_allocs(
+        Size(size),
+        count,
+        bin_indices,
+        used_bins,
+        nodes,
+        free_nodes,
+    );
+    let given = started.answer;
+    let totals = started.totals;
+    Called {
+        answer: told::of_start(given),
+        totals,
+    }
+}
+
+fn reset(
+    t: Totals,
+    bin_indices: &mut [u32; 256],
+    used_bins: &mut [u8; 32],
+    nodes: &mut [u32],
+    free_nodes: &mut [u32],
+) -> Called
+    ensures { λ r. ⌜ _≡_ {A = Told × Words}
+        (r .answer, wordsOf (r .totals) (now («bin_indices» .exit)) (now («used_bins» .exit)) (now (nodes .exit)) (now («free_nodes» .exit)))
+        (made inPlace Reset (wordsOf t (now («bin_indices» .entry)) (now («used_bins» .entry)) (now (nodes .entry)) (now («free_nodes» .entry)))) ⌝ }
+{
+    let started = starting::reset(t, bin_indices, used_bins, nodes, free_nodes);
+    let given = started.answer;
+    let totals = started.totals;
+    Called {
+        answer: told::of_start(given),
+        totals,
+    }
+}
+
+fn take(
+    t: Totals,
+    bin_indices: &mut [u32; 256],
+    used_bins: &mut [u8; 32],
+    nodes: &mut [u32],
+    free_nodes: &[u32],
+    size: u32,
+) -> Called
+    ensures { λ r. ⌜ _≡_ {A = Told × Words}
+        (r .answer, wordsOf (r .totals) (now («bin_indices» .exit)) (now («used_bins» .exit)) (now (nodes .exit)) (now («free_nodes» .entry)))
+        (made inPlace (Take size) (wordsOf t (now («bin_indices» .entry)) (now («used_bins» .entry)) (now (nodes .entry)) (now («free_nodes» .entry)))) ⌝ }
+{
+    let taken = taking::allocate(t, Size(size), bin_indices, used_bins, nodes, free_nodes);
+    let given = taken.answer;
+    let totals = taken.totals;
+    Called {
+        answer: told::of_take(given),
+        totals,
+    }
+}
+
+// A row names a span by its record alone; where it starts no call looks at.
+fn hand_back(
+    t: Totals,
+    bin_indices: &mut [u32; 256],
+    used_bins: &mut [u8; 32],
+    nodes: &mut [u32],
+    free_nodes: &mut [u32],
+    number: u32,
+) -> Called
+    ensures { λ r. ⌜ _≡_ {A = Told × Words}
+        (r .answer, wordsOf (r .totals) (now («bin_indices» .exit)) (now («used_bins» .exit)) (now (nodes .exit)) (now («free_nodes» .exit)))
+        (made inPlace (HandBack number)
+        (wordsOf t (now («bin_indices» .entry)) (now («used_bins» .entry)) (now (nodes .entry)) (now («free_nodes» .entry)))) ⌝ }
+{
+    let span = Allocation {
+        offset: 0,
+        metadata: Handle(number),
+    };
+    let returned = giving::free(t, span, bin_indices, used_bins, nodes, free_nodes);
+    let given = returned.answer;
+    let totals = returned.totals;
+    Called {
+        answer: told::of_back(given),
+        totals,
+    }
+}
+
+// The questions, which change nothing.
+fn size_of(
+    t: Totals,
+    bin_indices: &[u32; 256],
+    used_bins: &[u8; 32],
+    nodes: &[u32],
+    free_nodes: &[u32],
+    number: u32,
+) -> Called
+    ensures { λ r. ⌜ _≡_ {A = Told × Words}
+        (r .answer, wordsOf (r .totals) (now («bin_indices» .entry)) (now («used_bins» .entry)) (now (nodes .entry)) (now («free_nodes» .entry)))
+        (made inPlace (SizeOf number)
+        (wordsOf t (now («bin_indices» .entry)) (now («used_bins» .entry)) (now (nodes .entry)) (now («free_nodes» .entry)))) ⌝ }
+{
+    let span = Allocation {
+        offset: 0,
+        metadata: Handle(number),
+    };
+    let given = asking::allocation_size(t, span, bin_indices, used_bins, nodes, free_nodes);
+    Called {
+        answer: told::of_size(given),
+        totals: t,
+    }
+}
+
+fn report(
+    t: Totals,
+    bin_indices: &[u32; 256],
+    used_bins: &[u8; 32],
+    nodes: &[u32],
+    free_nodes: &[u32],
+) -> Called
+    ensures { λ r. ⌜ _≡_ {A = Told × Words}
+        (r .answer, wordsOf (r .totals) (now («bin_indices» .entry)) (now («used_bins» .entry)) (now (nodes .entry)) (now («free_nodes» .entry)))
+        (made inPlace Report
+        (wordsOf t (now («bin_indices» .entry)) (now («used_bins» .entry)) (now (nodes .entry)) (now («free_nodes» .entry)))) ⌝ }
+{
+    let given = asking::storage_report(t, bin_indices, used_bins, nodes, free_nodes);
+    Called {
+        answer: told::of_report(given),
+        totals: t,
+    }
+}
+
+fn class_of(
+    t: Totals,
+    bin_indices: &[u32; 256],
+    used_bins: &[u8; 32],
+    nodes: &[u32],
+    free_nodes: &[u32],
+    class: u32,
+) -> Called
+    ensures { λ r. ⌜ _≡_ {A = Told × Words}
+        (r .answer, wordsOf (r .totals) (now («bin_indices» .entry)) (now («used_bins» .entry)) (now (nodes .entry)) (now («free_nodes» .entry)))
+        (made inPlace (ClassOf class)
+        (wordsOf t (now («bin_indices» .entry)) (now («used_bins» .entry)) (now (nodes .entry)) (now («free_nodes» .entry)))) ⌝ }
+{
+    let full = asking::storage_report_full(t, bin_indices, used_bins, nodes, free_nodes);
+    Called {
+        answer: told::of_class(full, class),
+        totals: t,
+    }
+}
+
+fn classes_held(
+    t: Totals,
+    bin_indices: &[u32; 256],
+    used_bins: &[u8; 32],
+    nodes: &[u32],
+    free_nodes: &[u32],
+) -> Called
+    ensures { λ r. ⌜ _≡_ {A = Told × Words}
+        (r .answer, wordsOf (r .totals) (now («bin_indices» .entry)) (now («used_bins» .entry)) (now (nodes .entry)) (now («free_nodes» .entry)))
+        (made inPlace ClassesHeld
+        (wordsOf t (now («bin_indices» .entry)) (now («used_bins» .entry)) (now (nodes .entry)) (now («free_nodes» .entry)))) ⌝ }
+{
+    let full = asking::storage_report_full(t, bin_indices, used_bins, nodes, free_nodes);
+    Called {
+        answer: told::of_classes(full),
+        totals: t,
+    }
+}
+
+// The call made, and its answer.
+pub fn make(
+    call: Call,
+    t: Totals,
+    bin_indices: &mut [u32; 256],
+    used_bins: &mut [u8; 32],
+    nodes: &mut [u32],
+    free_nodes: &mut [u32],
+) -> Called
+    ensures { λ r. ⌜ _≡_ {A = Told × Words}
+        (r .answer, wordsOf (r .totals) (now («bin_indices» .exit)) (now («used_bins» .exit)) (now (nodes .exit)) (now («free_nodes» .exit)))
+        (made inPlace call (wordsOf t (now («bin_indices» .entry)) (now («used_bins» .entry)) (now (nodes .entry)) (now («free_nodes» .entry)))) ⌝ }
+{
+    match call {
+        Call::SetUp(size, count) => {
+            set_up(size, count, bin_indices, used_bins, nodes, free_nodes)
+        }
+        Call::Reset => reset(t, bin_indices, used_bins, nodes, free_nodes),
+        Call::Take(size) => take(t, bin_indices, used_bins, nodes, free_nodes, size),
+        Call::HandBack(number) => {
+            hand_back(t, bin_indices, used_bins, nodes, free_nodes, number)
+        }
+        Call::SizeOf(number) => size_of(t, bin_indices, used_bins, nodes, free_nodes, number),
+        Call::Report => report(t, bin_indices, used_bins, nodes, free_nodes),
+        Call::ClassOf(class) => class_of(t, bin_indices, used_bins, nodes, free_nodes, class),
+        Call::ClassesHeld => classes_held(t, bin_indices, used_bins, nodes, free_nodes),
+        Call::Nothing => Called {
+            answer: Answer::Nothing,
+            totals: t,
+        },
+    }
+}

@@ -1,0 +1,2 @@
+-- Counted: how calls are counted.
+pub mod Counted

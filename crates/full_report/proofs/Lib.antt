@@ -1,0 +1,2 @@
+-- Columns: the two columns of the full report.
+pub mod Columns

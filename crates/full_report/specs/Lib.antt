@@ -1,0 +1,2 @@
+-- The walk of a list, as the model's.
+pub mod Walks

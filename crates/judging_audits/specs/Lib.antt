@@ -1,0 +1,2 @@
+-- Audits: what is held against an audit.
+pub mod Audits

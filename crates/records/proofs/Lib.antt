@@ -1,0 +1,5 @@
+-- GateWalk: what the gate's answer means for any call. Rooms: which words a table that has room holds. Outcome: an answer and
+-- the scalars beside it make an outcome.
+pub mod GateWalk
+pub mod Rooms
+pub mod Outcome

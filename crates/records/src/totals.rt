@@ -1,0 +1,137 @@
+// The scalars of a head, by value: what the in-place calls take and give back beside the arrays and tables that they are lent.
+//
+// Whoever makes them or changes one goes through these functions, so that a new scalar is named here and in specs/ alone. They are spelled out:
+// `self.size = size; self` is copied as a whole, which took a call in place twice the time (docs/SPEED.md).
+ghost use mathlib.Core.Path.{_≡_};
+ghost use mathlib.Core.Bool.{true};
+ghost use Prim.Native.Nat.{_≤_};
+ghost use Rattle.records.specs.InWords.{zeroTotals, blankTotals, withSize, withCount, withFreeStorage, withFreeOffset, withTopBits};
+
+pub struct Totals {
+    pub size: u32,
+    pub max_allocs: u32,
+    pub free_storage: u32,
+    pub free_offset: u32,
+    pub used_bins_top: u32,
+}
+
+impl Totals {
+    // Of no store: with a count of 0 every call on them is refused.
+    pub fn zeros() -> Totals
+        ensures { λ t. ⌜ t ≡ zeroTotals ⌝ }
+    {
+        Totals {
+            size: 0,
+            max_allocs: 0,
+            free_storage: 0,
+            free_offset: 0,
+            used_bins_top: 0,
+        }
+    }
+
+    // Of a store that is all free, with every record spare. That there are records the gate has tested.
+    pub fn blank(size: u32, max_allocs: u32) -> Totals
+        requires { ⌜ 1 ≤ «max_allocs» ⌝ }
+        ensures { λ t. ⌜ t ≡ blankTotals size «max_allocs» ⌝ }
+    {
+        Totals {
+            size: size,
+            max_allocs: max_allocs,
+            free_storage: size,
+            free_offset: max_allocs - 1,
+            used_bins_top: 0,
+        }
+    }
+
+    // The same scalars one by one, in a place of their own.
+    pub fn copied(self) -> Totals
+        ensures { λ t. ⌜ t ≡ self ⌝ }
+    {
+        Totals {
+            size: self.size,
+            max_allocs: self.max_allocs,
+            free_storage: self.free_storage,
+            free_offset: self.free_offset,
+            used_bins_top: self.used_bins_top,
+        }
+    }
+
+    pub fn with_size(self, size: u32) -> Totals
+        ensures { λ t. ⌜ t ≡ withSize self size ⌝ }
+    {
+        Totals {
+            size: size,
+            max_allocs: self.max_allocs,
+            free_storage: self.free_storage,
+            free_offset: self.free_offset,
+            used_bins_top: self.used_bins_top,
+        }
+    }
+
+    pub fn with_max_allocs(self, max_allocs: u32) -> Totals
+        ensures { λ t. ⌜ t ≡ withCount self «max_allocs» ⌝ }
+    {
+        Totals {
+            size: self.size,
+            max_allocs: max_allocs,
+            free_storage: self.free_storage,
+            free_offset: self.free_offset,
+            used_bins_top: self.used_bins_top,
+        }
+    }
+
+    pub fn with_free_storage(self, free_storage: u32) -> Totals
+        ensures { λ t. ⌜ t ≡ withFreeStorage self «free_storage» ⌝ }
+    {
+        Totals {
+            size: self.size,
+            max_allocs: self.max_allocs,
+            free_storage: free_storage,
+            free_offset: self.free_offset,
+            used_bins_top: self.used_bins_top,
+        }
+    }
+
+    pub fn with_free_offset(self, free_offset: u32) -> Totals
+        ensures { λ t. ⌜ t ≡ withFreeOffset self «free_offset» ⌝ }
+    {
+        Totals {
+            size: self.size,
+            max_allocs: self.max_allocs,
+            free_storage: self.free_storage,
+            free_offset: free_offset,
+            used_bins_top: self.used_bins_top,
+        }
+    }
+
+    pub fn with_used_bins_top(self, used_bins_top: u32) -> Totals
+        ensures { λ t. ⌜ t ≡ withTopBits self «used_bins_top» ⌝ }
+    {
+        Totals {
+            size: self.size,
+            max_allocs: self.max_allocs,
+            free_storage: self.free_storage,
+            free_offset: self.free_offset,
+            used_bins_top: used_bins_top,
+        }
+    }
+
+    // Every one is the other's.
+    pub fn same(self, other: Totals) -> bool
+        ensures { λ r. ⌜ (r ≡ true → self ≡ other) × (self ≡ other → r ≡ true) ⌝ }
+    {
+        if self.size != other.size {
+            return false;
+        }
+        if self.max_allocs != other.max_allocs {
+            return false;
+        }
+        if self.free_storage != other.free_storage {
+            return false;
+        }
+        if self.free_offset != other.free_offset {
+            return false;
+        }
+        self.used_bins_top == other.used_bins_top
+    }
+}
