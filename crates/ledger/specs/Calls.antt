@@ -89,7 +89,7 @@ module _ (E : Engine) (size count : ℕ) where
   unfoldable pub answer : Call → Ledger (E .Index) → Answer × Ledger (E .Index)
   unfolding take handBack told setup
   answer (Take asked) l = take E (asked .size) l
-  answer (HandBack span) l = handBack E (span .number) l
+  answer (HandBack span) l = handsBack E span l
   answer Reset l = (done, setup E size count)
   answer (Ask q) l = (told q l, l)
 
