@@ -1,7 +1,7 @@
 // The scalars of a head, by value: what the in-place calls take and give back beside the arrays and tables that they are lent.
 //
 // Whoever makes them or changes one goes through these functions, so that a new scalar is named here and in specs/ alone. They are spelled out:
-// `self.size = size; self` is copied as a whole, which took a call in place twice the time (docs/SPEED.md).
+// with `self.size = size; self` in their place the timed runs were slower (docs/SPEED.md).
 ghost use mathlib.Core.Path.{_≡_};
 ghost use mathlib.Core.Bool.{true};
 ghost use Prim.Native.Nat.{_≤_};
