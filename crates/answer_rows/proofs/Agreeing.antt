@@ -4,9 +4,9 @@ use mathlib.Core.Path.{_≡_, refl, sym, ap, _∙_}
 use mathlib.Core.Logic.{_≢_, _⊎_, inl, inr}
 use native.Mathlib.Omega.{arith}
 use Rattle.basics.proofs.Decided.{same?, same, differ}
-use Rattle.replay.specs.declared.rows.Reader.{Reader}
+use Rattle.oracle_lists.specs.declared.rows.Reader.{Reader}
 use Rattle.call_verdicts.specs.declared.Said.{Said}
-use Rattle.replay.specs.declared.tally.Verdict.the-variants.{Agrees, Listed}
+use Rattle.oracle_lists.specs.declared.tally.Verdict.the-variants.{Agrees, Listed}
 use Rattle.call_verdicts.specs.Verdicts.{callVerdict}
 use Rattle.call_verdicts.proofs.Facts.{verdict-facts}
 use Rattle.call_values.specs.declared.answer.Answer.{Answer}

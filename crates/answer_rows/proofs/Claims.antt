@@ -1,6 +1,6 @@
 -- The claims, made. Assumes nothing.
 use mathlib.Core.Path.{refl}
-use Rattle.replay.specs.Facts.{withNumbers}
+use Rattle.oracle_lists.specs.Facts.{withNumbers}
 use Rattle.run_rows.specs.Asked.{isRow, questionOf, callOf}
 use Rattle.answer_rows.specs.Claims.{RowClaims}
 use Rattle.answer_rows.proofs.Agreeing.{agrees-with, x-agrees-with, listed-with, listed-is-5}

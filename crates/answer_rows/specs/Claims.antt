@@ -6,10 +6,10 @@ use mathlib.Core.Path.{_≡_}
 use mathlib.Core.Logic.{_≢_, _⊎_}
 use mathlib.Core.List.{List, [], _∷_}
 use lib.Dec.{eqb}
-use Rattle.replay.specs.declared.rows.Reader.{Reader}
-use Rattle.replay.specs.declared.tally.Verdict.the-variants.{Agrees, Listed}
+use Rattle.oracle_lists.specs.declared.rows.Reader.{Reader}
+use Rattle.oracle_lists.specs.declared.tally.Verdict.the-variants.{Agrees, Listed}
 use Rattle.call_verdicts.specs.Verdicts.{callVerdict}
-use Rattle.replay.specs.Facts.{rowRead}
+use Rattle.oracle_lists.specs.Facts.{rowRead}
 use Rattle.call_values.specs.declared.answer.Answer.{Answer}
 use Rattle.call_values.specs.declared.answer.Answer.the-variants as answer
 use Rattle.call_values.specs.declared.call.Call.{Call}

@@ -1,8 +1,8 @@
 -- What a row that agrees tells, and that one that differs does not agree. Assumes nothing.
 use mathlib.Core.Path.{_≡_, refl}
 use Rattle.basics.proofs.Clash.{clash}
-use Rattle.replay.specs.declared.tally.Verdict.{Verdict}
-use Rattle.replay.specs.declared.tally.Verdict.the-variants.{Agrees, Differs}
+use Rattle.oracle_lists.specs.declared.tally.Verdict.{Verdict}
+use Rattle.oracle_lists.specs.declared.tally.Verdict.the-variants.{Agrees, Differs}
 use Rattle.audit_verdicts.specs.Audited.{AgreesTells}
 
 pub agrees-tells : AgreesTells

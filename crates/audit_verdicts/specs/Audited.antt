@@ -10,8 +10,8 @@ use Rattle.tables.specs.Calls.{edition32}
 use Rattle.records.specs.InWords.{wordsOf}
 use Rattle.records.specs.InWords.{zeroTotals}
 use Rattle.audit_words.specs.Audit.{auditWords}
-use Rattle.replay.specs.declared.tally.Verdict.{Verdict}
-use Rattle.replay.specs.declared.tally.Verdict.the-variants.{Agrees}
+use Rattle.oracle_lists.specs.declared.tally.Verdict.{Verdict}
+use Rattle.oracle_lists.specs.declared.tally.Verdict.the-variants.{Agrees}
 use Rattle.audit_verdicts.specs.declared.State.{State}
 
 -- before the list's first store

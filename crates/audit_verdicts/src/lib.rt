@@ -3,8 +3,8 @@ ghost use mathlib.Core.Path.{_≡_};
 ghost use Rattle.answers.specs.Answers.{auditSays};
 ghost use Rattle.audit_verdicts.specs.Audited.{noStore, numberIn, numberWith, auditNumber, OnlyIf};
 use answers::AuditAnswer;
+use oracle_lists::tally::Verdict;
 use records::totals::Totals;
-use replay::tally::Verdict;
 
 pub struct State {
     pub totals: Totals,

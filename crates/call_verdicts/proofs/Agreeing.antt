@@ -7,10 +7,10 @@ use Prim.Native.Nat.{ℕ}
 use lib.Dec.{eqb}
 use Rattle.basics.proofs.Clash.{clash}
 use Rattle.basics.proofs.Decided.{same?, same, differ}
-use Rattle.replay.specs.declared.rows.Reader.{Reader}
+use Rattle.oracle_lists.specs.declared.rows.Reader.{Reader}
 use Rattle.call_verdicts.specs.declared.Said.{Said}
-use Rattle.replay.specs.declared.tally.Verdict.{Verdict}
-use Rattle.replay.specs.declared.tally.Verdict.the-variants.{Agrees, Listed, Differs}
+use Rattle.oracle_lists.specs.declared.tally.Verdict.{Verdict}
+use Rattle.oracle_lists.specs.declared.tally.Verdict.the-variants.{Agrees, Listed, Differs}
 use Rattle.call_verdicts.specs.Verdicts.{sameNumbers, callVerdict}
 
 -- a test that gives Differs where it fails has not failed

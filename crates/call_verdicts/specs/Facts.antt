@@ -2,8 +2,8 @@
 -- makes. Assumes nothing.
 use mathlib.Core.Path.{_≡_}
 use mathlib.Core.Logic.{_⊎_}
-use Rattle.replay.specs.declared.rows.Reader.{Reader}
-use Rattle.replay.specs.declared.tally.Verdict.the-variants.{Agrees, Listed}
+use Rattle.oracle_lists.specs.declared.rows.Reader.{Reader}
+use Rattle.oracle_lists.specs.declared.tally.Verdict.the-variants.{Agrees, Listed}
 use Rattle.call_verdicts.specs.declared.Said.{Said}
 use Rattle.call_verdicts.specs.Verdicts.{callVerdict}
 

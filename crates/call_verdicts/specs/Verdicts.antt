@@ -1,10 +1,10 @@
 -- When a row of the list of runs agrees with the row that the port would write, and when it shows a listed difference. Assumes nothing.
 use mathlib.Core.Bool.{cond}
 use lib.Dec.{eqb}
-use Rattle.replay.specs.declared.rows.Reader.{Reader}
+use Rattle.oracle_lists.specs.declared.rows.Reader.{Reader}
 use Rattle.call_verdicts.specs.declared.Said.{Said}
-use Rattle.replay.specs.declared.tally.Verdict.{Verdict}
-use Rattle.replay.specs.declared.tally.Verdict.the-variants.{Agrees, Listed, Differs}
+use Rattle.oracle_lists.specs.declared.tally.Verdict.{Verdict}
+use Rattle.oracle_lists.specs.declared.tally.Verdict.the-variants.{Agrees, Listed, Differs}
 
 -- rows of one letter: u, whose last number means nothing in the Rust, and b are the listed differences
 unfoldable pub sameNumbers : Reader → Said → Verdict

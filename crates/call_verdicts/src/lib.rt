@@ -1,8 +1,8 @@
 // The list of runs: what the Rust answered, held against what the port answers.
 ghost use mathlib.Core.Path.{_≡_};
 ghost use Rattle.call_verdicts.specs.Verdicts.{sameNumbers, callVerdict, bothVerdict};
-use replay::rows::Reader;
-use replay::tally::Verdict;
+use oracle_lists::rows::Reader;
+use oracle_lists::tally::Verdict;
 
 // The row that the port would write for a call: its letter and its last two numbers, 0 where it has fewer. The number before the last has
 // 64 bits, as the value of a class has.

@@ -4,7 +4,7 @@ use mathlib.Core.Bool.{true, false}
 use Prim.Native.Nat.{ℕ}
 use native.Mathlib.Omega.{arith}
 use Rattle.basics.proofs.Decided.{Same, same, differ, same?}
-use Rattle.replay.specs.Tally.{oneMore}
+use Rattle.oracle_lists.specs.Tally.{oneMore}
 use Rattle.counting.specs.Counted.{NeverRaised, CountClaims}
 
 more-than-0 : (n : ℕ) → oneMore n ≡ 0 → ⊥

@@ -3,7 +3,7 @@ use mathlib.Core.Path.{_≡_}
 use mathlib.Core.Bool.{Bool, false, cond}
 use Prim.Native.Nat.{ℕ, _+_, _*_, _%_, _<_}
 use lib.ListN.{getD, set, replicate}
-use Rattle.replay.specs.Tally.{oneMore}
+use Rattle.oracle_lists.specs.Tally.{oneMore}
 use Rattle.counting.specs.declared.Tally.{Tally}
 
 -- eight lines of nine columns, one after the other

@@ -3,7 +3,7 @@ ghost use mathlib.Core.Path.{_≡_};
 ghost use Prim.Native.Nat.{_<_};
 ghost use lib.ListN.{getD};
 ghost use Rattle.counting.specs.Counted.{cell, oneMoreIf, nothingCounted, counted, compared};
-use replay::tally::one_more;
+use oracle_lists::tally::one_more;
 
 const COLUMNS: u32 = 9;
 

@@ -2,7 +2,7 @@
 use crate::progress::Draws;
 use libc::STDIN_FILENO;
 use libc::STDOUT_FILENO;
-use replay::rows::Reader;
+use oracle_lists::rows::Reader;
 
 // What a row asks for: which run, the store's size and its number of records, and how many calls.
 pub struct Plan {

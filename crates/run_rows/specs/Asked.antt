@@ -2,7 +2,7 @@
 use Prim.Native.Nat.{ℕ}
 use mathlib.Core.Bool.{Bool, false, cond}
 use lib.Dec.{eqb}
-use Rattle.replay.specs.declared.rows.Reader.{Reader}
+use Rattle.oracle_lists.specs.declared.rows.Reader.{Reader}
 use Rattle.call_values.specs.declared.call.Call.{Call}
 use Rattle.call_values.specs.declared.call.Call.the-variants as call
 

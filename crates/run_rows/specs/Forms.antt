@@ -1,5 +1,5 @@
--- What is asked of each form of the calls, and whose verdict counts: a form that is not replayed is asked nothing. Assumes nothing.
-use Rattle.replay.specs.declared.tally.Verdict.{Verdict}
+-- What is asked of each form of the calls, and whose verdict counts: a form that is not compared is asked nothing. Assumes nothing.
+use Rattle.oracle_lists.specs.declared.tally.Verdict.{Verdict}
 use Rattle.call_verdicts.specs.Verdicts.{bothVerdict}
 use Rattle.call_values.specs.declared.call.Call.{Call}
 use Rattle.call_values.specs.declared.call.Call.the-variants.{Nothing}

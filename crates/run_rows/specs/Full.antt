@@ -2,9 +2,9 @@
 use Prim.Native.Nat.{ℕ, _+_}
 use mathlib.Core.Bool.{cond}
 use lib.Dec.{eqb, ltb}
-use Rattle.replay.specs.declared.rows.Reader.{Reader}
-use Rattle.replay.specs.declared.tally.Verdict.{Verdict}
-use Rattle.replay.specs.declared.tally.Verdict.the-variants.{Differs}
+use Rattle.oracle_lists.specs.declared.rows.Reader.{Reader}
+use Rattle.oracle_lists.specs.declared.tally.Verdict.{Verdict}
+use Rattle.oracle_lists.specs.declared.tally.Verdict.the-variants.{Differs}
 
 -- how many rows g came last, one after the other; there are 256 classes
 unfoldable pub classesAfter : Reader → ℕ → ℕ

@@ -2,7 +2,7 @@
 ghost use mathlib.Core.Path.{_≡_};
 ghost use Rattle.run_rows.specs.Asked.{isRow, callOf, questionOf};
 use call_values::call::Call;
-use replay::rows::Reader;
+use oracle_lists::rows::Reader;
 
 // A row of this letter, with as many numbers.
 fn is_row(row: Reader, letter: u8, fields: u32) -> bool

@@ -1,8 +1,8 @@
-// Which forms of the calls are replayed. Both together are the rule; where the tables leave no room for a second set it is one.
+// Which forms of the calls are compared. Both together are the rule; where the tables leave no room for a second set it is one.
 ghost use mathlib.Core.Path.{_≡_};
 ghost use Rattle.run_rows.specs.Forms.{inPlace, byValue, verdictOf};
 use call_values::call::Call;
-use replay::tally::Verdict;
+use oracle_lists::tally::Verdict;
 
 pub enum Forms {
     Both,

@@ -1,8 +1,8 @@
 // The rows of a full report: one for each class that holds something, one after the other; then a row that says how many they were.
 ghost use mathlib.Core.Path.{_≡_};
 ghost use Rattle.run_rows.specs.Full.{classesAfter, wholeReport};
-use replay::rows::Reader;
-use replay::tally::Verdict;
+use oracle_lists::rows::Reader;
+use oracle_lists::tally::Verdict;
 
 // How many rows of classes have come just before the next row.
 pub fn classes_after(row: Reader, classes: u32) -> u32

@@ -10,7 +10,7 @@ mod once;
 use driving::by_value;
 use driving::rows;
 use libc::STDOUT_FILENO;
-use replay::rows::Reader;
+use oracle_lists::rows::Reader;
 
 fn answer(row: Reader) {
     if !row.is_whole() {

@@ -7,7 +7,7 @@
 use driving::in_place;
 use driving::rows;
 use libc::STDOUT_FILENO;
-use replay::rows::Reader;
+use oracle_lists::rows::Reader;
 
 fn answer(row: Reader) {
     if !row.is_whole() {

@@ -1,4 +1,4 @@
-// The oracle's list of runs, replayed: `runs` has the list to its end, `outcome` what is printed. The library `run_rows` has the call that a row
+// The oracle's list of runs, compared: `runs` has the list to its end, `outcome` what is printed. The library `run_rows` has the call that a row
 // stands for, and `answer_rows` the port's answer as the row that it would write.
 pub mod outcome;
 pub mod runs;

@@ -2,23 +2,23 @@
 // by value, on tables for 1,024 records, the most that a run of the list has; printed is how many rows agree with what the port answers. Then
 // every call is made on spoiled tables.
 //
-// With an argument long runs are replayed, which tools/long-run pipes in, on tables for 131,072 records, one form at a time, because a stack of
+// With an argument long runs are compared, which tools/long-run pipes in, on tables for 131,072 records, one form at a time, because a stack of
 // 8 MiB does not hold the tables of both: with one argument in place, with two by value.
 mod list;
 mod spoiled;
 
 use list::outcome;
 use list::runs;
-use list::runs::Replay;
+use list::runs::Comparison;
 use run_rows::forms::Forms;
 
 // The form that is left out is lent tables of one word, which nothing touches.
-fn replay_in_place(nodes: &mut [u32; 1048576], free_nodes: &mut [u32; 131072]) -> Replay {
+fn compare_in_place(nodes: &mut [u32; 1048576], free_nodes: &mut [u32; 131072]) -> Comparison {
     let mut bin_indices = [0u32; 256];
     let mut used_bins = [0u8; 32];
     let mut no_nodes = [0u32; 1];
     let mut no_free_nodes = [0u32; 1];
-    runs::replay_input(
+    runs::compare_input(
         Forms::InPlace,
         &mut bin_indices,
         &mut used_bins,
@@ -29,12 +29,12 @@ fn replay_in_place(nodes: &mut [u32; 1048576], free_nodes: &mut [u32; 131072]) -
     )
 }
 
-fn replay_by_value(nodes: &mut [u32; 1048576], free_nodes: &mut [u32; 131072]) -> Replay {
+fn compare_by_value(nodes: &mut [u32; 1048576], free_nodes: &mut [u32; 131072]) -> Comparison {
     let mut bin_indices = [0u32; 256];
     let mut used_bins = [0u8; 32];
     let mut no_nodes = [0u32; 1];
     let mut no_free_nodes = [0u32; 1];
-    runs::replay_input(
+    runs::compare_input(
         Forms::ByValue,
         &mut bin_indices,
         &mut used_bins,
@@ -45,15 +45,15 @@ fn replay_by_value(nodes: &mut [u32; 1048576], free_nodes: &mut [u32; 131072]) -
     )
 }
 
-fn replay_both(
+fn compare_both(
     nodes: &mut [u32; 8192],
     free_nodes: &mut [u32; 1024],
     value_nodes: &mut [u32; 8192],
     value_free_nodes: &mut [u32; 1024],
-) -> Replay {
+) -> Comparison {
     let mut bin_indices = [0u32; 256];
     let mut used_bins = [0u8; 32];
-    runs::replay_input(
+    runs::compare_input(
         Forms::Both,
         &mut bin_indices,
         &mut used_bins,
@@ -69,7 +69,7 @@ fn print_list() {
     let mut free_nodes = [0u32; 1024];
     let mut value_nodes = [0u32; 8192];
     let mut value_free_nodes = [0u32; 1024];
-    outcome::print_outcome(replay_both(
+    outcome::print_outcome(compare_both(
         &mut nodes,
         &mut free_nodes,
         &mut value_nodes,
@@ -81,9 +81,9 @@ fn print_long(by_value: bool) {
     let mut nodes = [0u32; 1048576];
     let mut free_nodes = [0u32; 131072];
     if by_value {
-        outcome::print_outcome(replay_by_value(&mut nodes, &mut free_nodes));
+        outcome::print_outcome(compare_by_value(&mut nodes, &mut free_nodes));
     } else {
-        outcome::print_outcome(replay_in_place(&mut nodes, &mut free_nodes));
+        outcome::print_outcome(compare_in_place(&mut nodes, &mut free_nodes));
     }
 }
 

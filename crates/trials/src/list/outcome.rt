@@ -1,5 +1,5 @@
 // How many rows agreed, written to standard output.
-use crate::list::runs::Replay;
+use crate::list::runs::Comparison;
 use libc::STDOUT_FILENO;
 
 // A line: a text, then a number.
@@ -9,8 +9,8 @@ fn line(text: &[u8], n: u64) {
     io::write_all(STDOUT_FILENO, b"\n");
 }
 
-pub fn print_outcome(replay: Replay) {
-    let tally = replay.tally;
+pub fn print_outcome(comparison: Comparison) {
+    let tally = comparison.tally;
     line(b"rows ", tally.rows);
     line(b"agreed ", tally.agreed);
     line(b"listed differences ", tally.listed);
@@ -18,7 +18,7 @@ pub fn print_outcome(replay: Replay) {
     if tally.other != 0 {
         line(b"first at row ", tally.first);
     }
-    let reader = replay.reader;
+    let reader = comparison.reader;
     if !reader.ends_well() {
         line(b"spoiled after row ", tally.rows);
     }

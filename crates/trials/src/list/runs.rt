@@ -1,18 +1,18 @@
-// The list of runs, replayed: each row's call is made in place and by value, or in one of the forms, each on tables of its own, and a row agrees only
+// The list of runs, compared: each row's call is made in place and by value, or in one of the forms, each on tables of its own, and a row agrees only
 // if every form that is made answers as it says.
 use call_values::call::Call;
 use libc::STDIN_FILENO;
 use offset_allocator::head::Head;
+use oracle_lists::rows::Reader;
+use oracle_lists::tally::Tally;
 use records::totals::Totals;
-use replay::rows::Reader;
-use replay::tally::Tally;
 use run_rows::asked;
 use run_rows::forms::Forms;
 use run_rows::full;
 
 // The list read so far, the tally of its rows, how many classes of a full report came just before, and what each form keeps beside its arrays
 // and tables.
-pub struct Replay {
+pub struct Comparison {
     pub forms: Forms,
     pub reader: Reader,
     pub tally: Tally,
@@ -22,11 +22,11 @@ pub struct Replay {
 }
 
 // Before the first setup: a head of zeros, on which every call is refused.
-fn begin(forms: Forms) -> Replay {
+fn begin(forms: Forms) -> Comparison {
     let zeros = Totals::zeros();
     let used_bins = [0u8; 32];
     let bin_indices = [0u32; 256];
-    Replay {
+    Comparison {
         forms,
         reader: Reader::new(),
         tally: Tally::new(),
@@ -42,42 +42,42 @@ fn begin(forms: Forms) -> Replay {
 
 // What both forms answered to the row's call, held against the row and counted.
 fn count(
-    replay: Replay,
+    comparison: Comparison,
     call: Call,
     placed: calling_in_place::Called,
     valued: asking_by_value::Called,
-) -> Replay {
-    let row = replay.reader;
-    let forms = replay.forms;
-    let tally = replay.tally;
+) -> Comparison {
+    let row = comparison.reader;
+    let forms = comparison.forms;
+    let tally = comparison.tally;
     let in_place = placed.answer;
     let by_value = valued.answer;
     let first = call_verdicts::judge(row, answer_rows::said(call, in_place));
     let second = call_verdicts::judge(row, answer_rows::said(call, by_value));
-    let verdict = full::whole_report(row, replay.classes, forms.verdict(first, second));
+    let verdict = full::whole_report(row, comparison.classes, forms.verdict(first, second));
     let totals = placed.totals;
     let head = valued.head;
-    Replay {
+    Comparison {
         forms,
         reader: row,
         tally: tally.count(verdict),
-        classes: full::classes_after(row, replay.classes),
+        classes: full::classes_after(row, comparison.classes),
         totals,
         head,
     }
 }
 
-// The call made in place, if that form is replayed.
+// The call made in place, if that form is compared.
 fn make_in_place(
-    replay: Replay,
+    comparison: Comparison,
     call: Call,
     bin_indices: &mut [u32; 256],
     used_bins: &mut [u8; 32],
     nodes: &mut [u32],
     free_nodes: &mut [u32],
 ) -> calling_in_place::Called {
-    let forms = replay.forms;
-    let t = replay.totals;
+    let forms = comparison.forms;
+    let t = comparison.totals;
     calling_in_place::make(
         forms.call_in_place(call),
         t,
@@ -88,37 +88,37 @@ fn make_in_place(
     )
 }
 
-// The call made by value, if that form is replayed.
+// The call made by value, if that form is compared.
 fn make_by_value(
-    replay: Replay,
+    comparison: Comparison,
     call: Call,
     nodes: &mut [u32],
     free_nodes: &mut [u32],
 ) -> asking_by_value::Called {
-    let forms = replay.forms;
-    let head = replay.head;
+    let forms = comparison.forms;
+    let head = comparison.head;
     calling_by_value::make(forms.call_by_value(call), head, nodes, free_nodes)
 }
 
-// A whole row: its call is made in each form that is replayed, and the answers are judged.
-fn replay_row(
-    replay: Replay,
+// A whole row: its call is made in each form that is compared, and the answers are judged.
+fn compare_row(
+    comparison: Comparison,
     bin_indices: &mut [u32; 256],
     used_bins: &mut [u8; 32],
     nodes: &mut [u32],
     free_nodes: &mut [u32],
     value_nodes: &mut [u32],
     value_free_nodes: &mut [u32],
-) -> Replay {
-    let call = asked::call_of(replay.reader);
-    let placed = make_in_place(replay, call, bin_indices, used_bins, nodes, free_nodes);
-    let valued = make_by_value(replay, call, value_nodes, value_free_nodes);
-    count(replay, call, placed, valued)
+) -> Comparison {
+    let call = asked::call_of(comparison.reader);
+    let placed = make_in_place(comparison, call, bin_indices, used_bins, nodes, free_nodes);
+    let valued = make_by_value(comparison, call, value_nodes, value_free_nodes);
+    count(comparison, call, placed, valued)
 }
 
-// One byte more; where it ends a row, the row is replayed.
+// One byte more; where it ends a row, the row is compared.
 fn feed(
-    replay: Replay,
+    comparison: Comparison,
     byte: u8,
     bin_indices: &mut [u32; 256],
     used_bins: &mut [u8; 32],
@@ -126,23 +126,23 @@ fn feed(
     free_nodes: &mut [u32],
     value_nodes: &mut [u32],
     value_free_nodes: &mut [u32],
-) -> Replay {
-    let before = replay.reader;
+) -> Comparison {
+    let before = comparison.reader;
     let reader = before.feed(byte);
-    let tally = replay.tally;
-    let totals = replay.totals;
-    let head = replay.head;
-    let forms = replay.forms;
-    let read = Replay {
+    let tally = comparison.tally;
+    let totals = comparison.totals;
+    let head = comparison.head;
+    let forms = comparison.forms;
+    let read = Comparison {
         forms,
         reader,
         tally,
-        classes: replay.classes,
+        classes: comparison.classes,
         totals,
         head,
     };
     if reader.is_whole() {
-        return replay_row(
+        return compare_row(
             read,
             bin_indices,
             used_bins,
@@ -157,7 +157,7 @@ fn feed(
 
 // All of the bytes, in order.
 fn feed_all(
-    replay: Replay,
+    comparison: Comparison,
     bytes: &[u8],
     bin_indices: &mut [u32; 256],
     used_bins: &mut [u8; 32],
@@ -165,8 +165,8 @@ fn feed_all(
     free_nodes: &mut [u32],
     value_nodes: &mut [u32],
     value_free_nodes: &mut [u32],
-) -> Replay {
-    let mut fed = replay;
+) -> Comparison {
+    let mut fed = comparison;
     let mut i = 0;
     while i < bytes.len() {
         let byte = bytes[i];
@@ -187,7 +187,7 @@ fn feed_all(
 
 // The list to its end. A proved loop has to end, and nothing says that the input does: so turns are counted down, from a number that no
 // run uses up.
-pub fn replay_input(
+pub fn compare_input(
     forms: Forms,
     bin_indices: &mut [u32; 256],
     used_bins: &mut [u8; 32],
@@ -195,18 +195,18 @@ pub fn replay_input(
     free_nodes: &mut [u32],
     value_nodes: &mut [u32],
     value_free_nodes: &mut [u32],
-) -> Replay {
-    let mut replay = begin(forms);
+) -> Comparison {
+    let mut comparison = begin(forms);
     let mut buffer = io::large_buffer();
     let mut turns = u64::MAX;
     while turns > 0 {
         turns -= 1;
         let n = io::read_full(STDIN_FILENO, &mut buffer);
         if n == 0 {
-            return replay;
+            return comparison;
         }
-        replay = feed_all(
-            replay,
+        comparison = feed_all(
+            comparison,
             &buffer[..n],
             bin_indices,
             used_bins,
@@ -216,5 +216,5 @@ pub fn replay_input(
             value_free_nodes,
         );
     }
-    replay
+    comparison
 }

@@ -1,7 +1,0 @@
--- What the programs that replay the oracle's lists rely on: how a row is read, how verdicts are counted, when a row of the list of classes
--- agrees, and what a whole list of classes gives; then what can be said of these.
-pub mod Rows
-pub mod Tally
-pub mod Verdicts
-pub mod Replay
-pub mod Facts
