@@ -2,7 +2,14 @@
 //! each command, the same bytes on every run.
 
 mod classes;
+mod damaged;
+mod journal;
+mod journal_cases;
+mod journal_long;
+mod journal_runs;
 mod long_runs;
+mod regions;
+mod replay;
 mod runs;
 mod sound;
 mod speed;
@@ -19,27 +26,32 @@ usage: oracle COMMAND
   long-runs N    N calls in long runs with many records, for a pipe
   speed RUN SIZE RECORDS CALLS
                  a run of seeded takes and returns, to be timed
-  spoil          small stores word by word, each word spoiled, with what an audit must answer";
+  spoil          small stores word by word, each word spoiled, with what an audit must answer
+  replay         a line for each call of the journal on standard input
+  replay --bare FILE
+                 the time of the calls of a journal, without the reading
+  replay --decode FILE
+                 the time of its reading
+  journal-runs journal
+                 the calls of the runs as one journal, and a record that is cut
+  journal-runs lines
+                 what a replay of it must print
+  journal-cases  journals made by hand, in hexadecimal
+  journal-cases lines
+                 what a replay of each must print
+  damaged N      a digest of the replays of N damaged journals
+  journal-long CALLS
+                 a journal of so many seeded takes and returns, to be timed";
 
 fn main() -> ExitCode {
     let arguments: Vec<String> = std::env::args().skip(1).collect();
     let arguments: Vec<&str> = arguments.iter().map(String::as_str).collect();
     let mut out = BufWriter::new(io::stdout().lock());
 
-    let written = match arguments[..] {
-        ["classes"] => classes::write(&mut out),
-        ["runs"] => runs::write(&mut out),
-        ["spoil"] => spoil::write(&mut out),
-        ["long-runs", calls] if calls.parse::<u32>().is_ok() => {
-            long_runs::write(&mut out, calls.parse().unwrap_or_default())
-        }
-        ["speed", run, size, records, calls] => match numbers([run, size, records, calls]) {
-            Some([run, size, records, calls]) => speed::write(&mut out, run, size, records, calls),
-            None => return usage(),
-        },
-        _ => return usage(),
+    let Some(written) = write(&mut out, &arguments) else {
+        eprintln!("{USAGE}");
+        return ExitCode::from(2);
     };
-
     match written.and_then(|()| out.flush()) {
         Ok(()) => ExitCode::SUCCESS,
         Err(error) => {
@@ -49,15 +61,33 @@ fn main() -> ExitCode {
     }
 }
 
-fn usage() -> ExitCode {
-    eprintln!("{USAGE}");
-    ExitCode::from(2)
+/// What a command writes, unless the arguments are no command.
+fn write(out: &mut impl Write, arguments: &[&str]) -> Option<io::Result<()>> {
+    Some(match arguments {
+        ["classes"] => classes::write(out),
+        ["runs"] => runs::write(out),
+        ["long-runs", calls] => long_runs::write(out, number(calls)?),
+        ["speed", run, size, records, calls] => speed::write(
+            out,
+            number(run)?,
+            number(size)?,
+            number(records)?,
+            number(calls)?,
+        ),
+        ["spoil"] => spoil::write(out),
+        ["replay"] => replay::write(out),
+        ["replay", "--bare", path] => replay::write_bare(out, path),
+        ["replay", "--decode", path] => replay::write_decode(out, path),
+        ["journal-runs", "journal"] => journal_runs::write_journal(out),
+        ["journal-runs", "lines"] => journal_runs::write_lines(out),
+        ["journal-cases"] => journal_cases::write(out),
+        ["journal-cases", "lines"] => journal_cases::write_lines(out),
+        ["damaged", journals] => damaged::write(out, number(journals)?),
+        ["journal-long", calls] => journal_long::write(out, number(calls)?),
+        _ => return None,
+    })
 }
 
-fn numbers(words: [&str; 4]) -> Option<[u32; 4]> {
-    let numbers = words.map(|word| word.parse().ok());
-    let [Some(a), Some(b), Some(c), Some(d)] = numbers else {
-        return None;
-    };
-    Some([a, b, c, d])
+fn number(word: &str) -> Option<u32> {
+    word.parse().ok()
 }

@@ -250,7 +250,7 @@ impl Run {
     }
 }
 
-fn handle(number: u32) -> Allocation<u32> {
+pub fn handle(number: u32) -> Allocation<u32> {
     Allocation {
         offset: 0,
         metadata: NonMaxU32::try_from(number).expect("the greatest number is no record's"),

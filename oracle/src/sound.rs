@@ -26,7 +26,7 @@ pub const LIVE: u32 = 1;
 
 /// The least and the greatest count of records, and what is answered to others
 /// and to tables that are not sound; what is answered where a table is too short.
-const LEAST_COUNT: u32 = 2;
+pub const LEAST_COUNT: u32 = 2;
 pub const GREATEST_COUNT: u32 = 131_072;
 pub const YES: u32 = 0;
 pub const TOO_SHORT: u32 = 2;

@@ -22,13 +22,13 @@ const LIVE: u32 = 256;
 /// refusal makes the set smaller.
 const FULL: u32 = 4;
 
-const LARGEST: u32 = 2_000;
+pub const LARGEST: u32 = 2_000;
 
 /// As many spans as the port's tables have records are out at most.
 const MOST: u32 = 131_072;
 
 /// What a refused take adds to the sum.
-const REFUSED: u32 = u32::MAX;
+pub const REFUSED: u32 = u32::MAX;
 
 /// What is drawn and what came of it so far.
 struct Draws {
@@ -115,11 +115,11 @@ pub fn write(out: &mut impl Write, run: u32, size: u32, records: u32, calls: u32
 }
 
 /// A linear congruential generator, whose high half is good enough for sizes.
-fn next(seed: u32) -> u32 {
+pub fn next(seed: u32) -> u32 {
     seed.wrapping_mul(1_664_525).wrapping_add(1_013_904_223)
 }
 
-fn high_half(seed: u32) -> u32 {
+pub fn high_half(seed: u32) -> u32 {
     seed >> 16
 }
 
@@ -129,6 +129,6 @@ fn word(seed: u32) -> u32 {
     high_half(first) << 16 | high_half(next(first))
 }
 
-fn mix(sum: u32, answer: u32) -> u32 {
+pub fn mix(sum: u32, answer: u32) -> u32 {
     sum.wrapping_mul(31).wrapping_add(answer)
 }
