@@ -6,6 +6,7 @@ mod damaged;
 mod journal;
 mod journal_cases;
 mod journal_long;
+mod journal_room;
 mod journal_runs;
 mod long_runs;
 mod regions;
@@ -39,6 +40,7 @@ usage: oracle COMMAND
   journal-cases  journals made by hand, in hexadecimal
   journal-cases lines
                  what a replay of each must print
+  journal-room   records written at each place of short buffers
   damaged N      a digest of the replays of N damaged journals
   journal-long CALLS
                  a journal of so many seeded takes and returns, to be timed";
@@ -75,6 +77,7 @@ fn write(out: &mut impl Write, arguments: &[&str]) -> Option<io::Result<()>> {
             number(calls)?,
         ),
         ["spoil"] => spoil::write(out),
+        ["journal-room"] => journal_room::write(out),
         ["replay"] => replay::write(out),
         ["replay", "--bare", path] => replay::write_bare(out, path),
         ["replay", "--decode", path] => replay::write_decode(out, path),

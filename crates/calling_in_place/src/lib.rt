@@ -3,8 +3,9 @@ ghost use mathlib.Core.Path.{_≡_};
 ghost use Rattle.tables.specs.Words.{Words};
 ghost use Rattle.records.specs.InWords.{wordsOf};
 ghost use Rattle.call_values.specs.declared.answer.Answer.{Answer as Told};
-ghost use Rattle.call_values.specs.declared.call.Call.the-variants.{SetUp, Reset, Take, HandBack, SizeOf, Report, ClassOf, ClassesHeld};
+ghost use Rattle.call_values.specs.declared.call.Call.the-variants.{SizeOf, Report, ClassOf, ClassesHeld};
 ghost use Rattle.telling.specs.Made.{made, inPlace};
+ghost use Rattle.calling_in_place.specs.Changed.{changed};
 use answers::Allocation;
 use answers::Handle;
 use call_values::answer::Answer;
@@ -18,36 +19,9 @@ pub struct Called {
     pub totals: Totals,
 }
 
-fn set_up(
-    size: u32,
-    count: u32,
-    bin_indices: &mut [u32; 256],
-    used_bins: &mut [u8; 32],
-    nodes: &mut [u32],
-    free_nodes: &mut [u32],
-) -> Called
-    ensures { λ r. ⌜ ((t : Totals) → _≡_ {A = Told × Words}
-        (r .answer, wordsOf (r .totals) (now («bin_indices» .exit)) (now («used_bins» .exit)) (now (nodes .exit)) (now («free_nodes» .exit)))
-        (made inPlace (SetUp size count)
-        (wordsOf t (now («bin_indices» .entry)) (now («used_bins» .entry)) (now (nodes .entry)) (now («free_nodes» .entry))))) ⌝ }
-{
-    let started = starting::with_max_allocs(
-        Size(size),
-        count,
-        bin_indices,
-        used_bins,
-        nodes,
-        free_nodes,
-    );
-    let given = started.answer;
-    let totals = started.totals;
-    Called {
-        answer: told::of_start(given),
-        totals,
-    }
-}
-
-fn reset(
+// A call that changes something is made as `calling` makes it.
+fn change(
+    call: calls::Call,
     t: Totals,
     bin_indices: &mut [u32; 256],
     used_bins: &mut [u8; 32],
@@ -56,61 +30,13 @@ fn reset(
 ) -> Called
     ensures { λ r. ⌜ _≡_ {A = Told × Words}
         (r .answer, wordsOf (r .totals) (now («bin_indices» .exit)) (now («used_bins» .exit)) (now (nodes .exit)) (now («free_nodes» .exit)))
-        (made inPlace Reset (wordsOf t (now («bin_indices» .entry)) (now («used_bins» .entry)) (now (nodes .entry)) (now («free_nodes» .entry)))) ⌝ }
+        (changed call (wordsOf t (now («bin_indices» .entry)) (now («used_bins» .entry)) (now (nodes .entry)) (now («free_nodes» .entry)))) ⌝ }
 {
-    let started = starting::reset(t, bin_indices, used_bins, nodes, free_nodes);
-    let given = started.answer;
-    let totals = started.totals;
+    let made = calling::make(call, t, bin_indices, used_bins, nodes, free_nodes);
+    let given = made.answer;
+    let totals = made.totals;
     Called {
-        answer: told::of_start(given),
-        totals,
-    }
-}
-
-fn take(
-    t: Totals,
-    bin_indices: &mut [u32; 256],
-    used_bins: &mut [u8; 32],
-    nodes: &mut [u32],
-    free_nodes: &[u32],
-    size: u32,
-) -> Called
-    ensures { λ r. ⌜ _≡_ {A = Told × Words}
-        (r .answer, wordsOf (r .totals) (now («bin_indices» .exit)) (now («used_bins» .exit)) (now (nodes .exit)) (now («free_nodes» .entry)))
-        (made inPlace (Take size) (wordsOf t (now («bin_indices» .entry)) (now («used_bins» .entry)) (now (nodes .entry)) (now («free_nodes» .entry)))) ⌝ }
-{
-    let taken = taking::allocate(t, Size(size), bin_indices, used_bins, nodes, free_nodes);
-    let given = taken.answer;
-    let totals = taken.totals;
-    Called {
-        answer: told::of_take(given),
-        totals,
-    }
-}
-
-// A row names a span by its record alone; where it starts no call looks at.
-fn hand_back(
-    t: Totals,
-    bin_indices: &mut [u32; 256],
-    used_bins: &mut [u8; 32],
-    nodes: &mut [u32],
-    free_nodes: &mut [u32],
-    number: u32,
-) -> Called
-    ensures { λ r. ⌜ _≡_ {A = Told × Words}
-        (r .answer, wordsOf (r .totals) (now («bin_indices» .exit)) (now («used_bins» .exit)) (now (nodes .exit)) (now («free_nodes» .exit)))
-        (made inPlace (HandBack number)
-        (wordsOf t (now («bin_indices» .entry)) (now («used_bins» .entry)) (now (nodes .entry)) (now («free_nodes» .entry)))) ⌝ }
-{
-    let span = Allocation {
-        offset: 0,
-        metadata: Handle(number),
-    };
-    let returned = giving::free(t, span, bin_indices, used_bins, nodes, free_nodes);
-    let given = returned.answer;
-    let totals = returned.totals;
-    Called {
-        answer: told::of_back(given),
+        answer: told::of_change(given),
         totals,
     }
 }
@@ -212,14 +138,38 @@ pub fn make(
         (made inPlace call (wordsOf t (now («bin_indices» .entry)) (now («used_bins» .entry)) (now (nodes .entry)) (now («free_nodes» .entry)))) ⌝ }
 {
     match call {
-        Call::SetUp(size, count) => {
-            set_up(size, count, bin_indices, used_bins, nodes, free_nodes)
-        }
-        Call::Reset => reset(t, bin_indices, used_bins, nodes, free_nodes),
-        Call::Take(size) => take(t, bin_indices, used_bins, nodes, free_nodes, size),
-        Call::HandBack(number) => {
-            hand_back(t, bin_indices, used_bins, nodes, free_nodes, number)
-        }
+        Call::SetUp(size, count) => change(
+            calls::Call::SetUp(Size(size), count),
+            t,
+            bin_indices,
+            used_bins,
+            nodes,
+            free_nodes,
+        ),
+        Call::Reset => change(
+            calls::Call::Reset,
+            t,
+            bin_indices,
+            used_bins,
+            nodes,
+            free_nodes,
+        ),
+        Call::Take(size) => change(
+            calls::Call::Take(Size(size)),
+            t,
+            bin_indices,
+            used_bins,
+            nodes,
+            free_nodes,
+        ),
+        Call::HandBack(number) => change(
+            calls::Call::HandBack(Handle(number)),
+            t,
+            bin_indices,
+            used_bins,
+            nodes,
+            free_nodes,
+        ),
         Call::SizeOf(number) => size_of(t, bin_indices, used_bins, nodes, free_nodes, number),
         Call::Report => report(t, bin_indices, used_bins, nodes, free_nodes),
         Call::ClassOf(class) => class_of(t, bin_indices, used_bins, nodes, free_nodes, class),

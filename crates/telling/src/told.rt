@@ -2,6 +2,7 @@
 ghost use mathlib.Core.Path.{_≡_};
 ghost use mathlib.Core.List.{List};
 ghost use Prim.Native.Nat.{ℕ, _+_, _<_, _≤_};
+ghost use Rattle.calls.specs.Values.{says};
 ghost use Rattle.answers.specs.Answers.{startSays};
 ghost use Rattle.answers.specs.Answers.{takeSays};
 ghost use Rattle.answers.specs.Answers.{backSays};
@@ -17,6 +18,20 @@ use answers::SizeAnswer;
 use answers::StartAnswer;
 use answers::TakeAnswer;
 use call_values::answer::Answer;
+
+// The answer of a call that came as a value.
+pub fn of_change(answer: calls::Answer) -> Answer
+    ensures { λ r. ⌜ r ≡ told (says answer) ⌝ }
+{
+    match answer {
+        calls::Answer::Done => Answer::Done,
+        calls::Answer::Granted(span) => {
+            let handle = span.metadata;
+            Answer::Granted(span.offset, handle.0)
+        }
+        calls::Answer::Refused(why) => Answer::Refused(why.number()),
+    }
+}
 
 pub fn of_start(answer: StartAnswer) -> Answer
     ensures { λ r. ⌜ r ≡ told (startSays answer) ⌝ }

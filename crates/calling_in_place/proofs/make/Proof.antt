@@ -9,26 +9,26 @@ use Rattle.calling_in_place.proofs.make.Tie as tie
 enum-known-call : tie.Need-enum-known-call
 enum-known-call c = search needs
 
-set-up-requires : tie.Need-set-up-requires
-set-up-requires c κs = search needs
+change-requires : tie.Need-change-requires
+change-requires c κs = search needs
 
 enum-told : tie.Need-enum-told
 enum-told c = search needs
 
-reset-requires : tie.Need-reset-requires
-reset-requires c κs = search needs
+change-requires-2 : tie.Need-change-requires-2
+change-requires-2 c κs = search needs
 
 enum-known-call-2 : tie.Need-enum-known-call-2
 enum-known-call-2 c = search needs
 
-take-requires : tie.Need-take-requires
-take-requires c κs = search needs
+change-requires-3 : tie.Need-change-requires-3
+change-requires-3 c κs = search needs
 
 enum-known-call-3 : tie.Need-enum-known-call-3
 enum-known-call-3 c = search needs
 
-hand-back-requires : tie.Need-hand-back-requires
-hand-back-requires c κs = search needs
+change-requires-4 : tie.Need-change-requires-4
+change-requires-4 c κs = search needs
 
 enum-known-call-4 : tie.Need-enum-known-call-4
 enum-known-call-4 c = search needs
@@ -64,11 +64,7 @@ same-length-2 : tie.Need-same-length-2
 same-length-2 c = search needs
 
 returns : tie.Need-returns
-returns c =
-    let given = c .before .before .before .before .before .before .before .before .before .before .before .before .before .before .args in
-    let called = c .before .before .before .before in
-    let came = called .before .before .before .before .before .before .call .given .1 in
-    as-came inPlace _ came (called .set-up .ensures (given .t))
+returns c = as-came inPlace _ (c .before .before .before .before .before .before .before .before .before .before .call .given .1) (c .before .before .before .before .change .ensures)
 
 same-length-3 : tie.Need-same-length-3
 same-length-3 c = search needs
@@ -77,10 +73,7 @@ same-length-4 : tie.Need-same-length-4
 same-length-4 c = search needs
 
 returns-2 : tie.Need-returns-2
-returns-2 c =
-    let called = c .before .before .before .before in
-    let came = called .before .before .before .before .before .enum-told .given .1 in
-    as-came inPlace _ came (called .reset .ensures)
+returns-2 c = as-came inPlace _ (c .before .before .before .before .before .before .before .before .before .enum-told .given .1) (c .before .before .before .before .change2 .ensures)
 
 same-length-5 : tie.Need-same-length-5
 same-length-5 c = search needs
@@ -89,10 +82,7 @@ same-length-6 : tie.Need-same-length-6
 same-length-6 c = search needs
 
 returns-3 : tie.Need-returns-3
-returns-3 c =
-    let called = c .before .before in
-    let came = called .before .before .before .before .before .before .call2 .given .1 in
-    as-came inPlace _ came (called .take .ensures)
+returns-3 c = as-came inPlace _ (c .before .before .before .before .before .before .before .before .before .before .call2 .given .1) (c .before .before .before .before .change3 .ensures)
 
 same-length-7 : tie.Need-same-length-7
 same-length-7 c = search needs
@@ -101,10 +91,7 @@ same-length-8 : tie.Need-same-length-8
 same-length-8 c = search needs
 
 returns-4 : tie.Need-returns-4
-returns-4 c =
-    let called = c .before .before .before .before in
-    let came = called .before .before .before .before .before .before .call3 .given .1 in
-    as-came inPlace _ came (called .hand-back .ensures)
+returns-4 c = as-came inPlace _ (c .before .before .before .before .before .before .before .before .before .before .call3 .given .1) (c .before .before .before .before .change4 .ensures)
 
 same-length-9 : tie.Need-same-length-9
 same-length-9 c = search needs
@@ -150,13 +137,13 @@ make-spec =
     tie.close
     (tie.spec
     enum-known-call
-    set-up-requires
+    change-requires
     enum-told
-    reset-requires
+    change-requires-2
     enum-known-call-2
-    take-requires
+    change-requires-3
     enum-known-call-3
-    hand-back-requires
+    change-requires-4
     enum-known-call-4
     size-of-requires
     enum-told-2

@@ -1,0 +1,2 @@
+-- Makes: what a call that comes as a value promises.
+pub mod Makes

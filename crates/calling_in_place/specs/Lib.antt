@@ -1,0 +1,2 @@
+-- Changed: what a call that changes something is answered and leaves.
+pub mod Changed

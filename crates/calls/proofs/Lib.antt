@@ -1,0 +1,2 @@
+-- OneValue: an answer is given by what it says.
+pub mod OneValue

@@ -1,0 +1,2 @@
+-- Sliding: a byte more at the front.
+pub mod Sliding

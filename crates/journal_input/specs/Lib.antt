@@ -1,0 +1,2 @@
+-- Slid: what moving the unread bytes to the front leaves.
+pub mod Slid

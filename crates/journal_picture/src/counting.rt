@@ -1,0 +1,86 @@
+// How many calls there are to draw, and how the journal ends.
+use journal::entry::Broken;
+use journal::entry::Entry;
+
+// So many columns a picture shows.
+pub const MOST: u32 = 1000;
+
+pub enum Ending {
+    Whole,
+    Broke(Broken),
+    // there are more calls than the picture shows
+    GoesOn,
+}
+
+pub struct Counted {
+    pub calls: u32,
+    pub ending: Ending,
+}
+
+// What stands behind the last call that is drawn.
+fn ending_at(bytes: &[u8], at: usize) -> Ending {
+    match journal::reading::read(bytes, at) {
+        Entry::Read(_, _) => Ending::GoesOn,
+        Entry::End => Ending::Whole,
+        Entry::Refused(why) => Ending::Broke(why),
+    }
+}
+
+pub fn count(bytes: &[u8]) -> Counted {
+    let mut at = 0;
+    let mut calls: u32 = 0;
+    while calls < MOST {
+        let Entry::Read(_, next) = journal::reading::read(bytes, at) else {
+            return Counted {
+                calls,
+                ending: ending_at(bytes, at),
+            };
+        };
+        calls += 1;
+        at = next;
+    }
+    Counted {
+        calls,
+        ending: ending_at(bytes, at),
+    }
+}
+
+// From this width on a column has room for its call's text.
+pub const WIDE: u32 = 12;
+
+// How wide a column is, in pixels.
+pub fn column_width(calls: u32) -> u32 {
+    if calls <= 20 {
+        return 46;
+    }
+    if calls <= 60 {
+        return 22;
+    }
+    if calls <= 120 {
+        return 12;
+    }
+    if calls <= 320 {
+        return 5;
+    }
+    2
+}
+
+// And all of them together.
+pub fn columns_width(calls: u32) -> u32 {
+    if calls <= 20 {
+        return calls * 46;
+    }
+    if calls <= 60 {
+        return calls * 22;
+    }
+    if calls <= 120 {
+        return calls * 12;
+    }
+    if calls <= 320 {
+        return calls * 5;
+    }
+    if calls <= MOST {
+        return calls * 2;
+    }
+    2 * MOST
+}

@@ -1,0 +1,73 @@
+-- The measure is the number of records that may still come. Assumes nothing.
+use native.Mathlib.Omega.{arith}
+use borrow.Author.Needs.{needs}
+use Prim.Native.Nat.{_-_}
+use Rattle.replay.proofs.run.Statement.{statement}
+use Rattle.replay.proofs.run.Tie as tie
+
+abbrev Inv-loop : tie.InvT-loop
+Inv-loop buffer₀ out₀ nodes₀ free-nodes₀ bin-indices₀ used-bins₀ shown replay₀ records₀ buffer out nodes free-nodes bin-indices used-bins replay records =
+    Unit {0}
+
+abbrev μ-loop : tie.MeasureT-loop
+μ-loop buffer₀ out₀ nodes₀ free-nodes₀ bin-indices₀ used-bins₀ shown replay₀ records₀ buffer out nodes free-nodes bin-indices used-bins replay records =
+    18_446_744_073_709_551_615 - records
+
+is-shown-requires : tie.Need-is-shown-requires Inv-loop μ-loop
+is-shown-requires c κs = search needs
+
+new-requires : tie.Need-new-requires Inv-loop μ-loop
+new-requires c κs = search needs
+
+zeros-requires : tie.Need-zeros-requires Inv-loop μ-loop
+zeros-requires c κs = search needs
+
+loop-holds : tie.Need-loop-holds Inv-loop μ-loop
+loop-holds c = tt
+
+add-records : tie.Need-add-records Inv-loop μ-loop
+add-records c = search needs
+
+turn-requires : tie.Need-turn-requires Inv-loop μ-loop
+turn-requires c κs = search needs
+
+flush-requires : tie.Need-flush-requires Inv-loop μ-loop
+flush-requires c κs = search needs
+
+end-requires : tie.Need-end-requires Inv-loop μ-loop
+end-requires c κs = search needs
+
+returns : tie.Need-returns Inv-loop μ-loop
+returns c = search needs
+
+show-requires : tie.Need-show-requires Inv-loop μ-loop
+show-requires c κs = search needs
+
+loop-less : tie.Need-loop-less Inv-loop μ-loop
+loop-less c = omega arith
+
+loop-again : tie.Need-loop-again Inv-loop μ-loop
+loop-again c = tt
+
+returns-2 : tie.Need-returns-2 Inv-loop μ-loop
+returns-2 c = search needs
+
+pub run-spec : {M : Type 1} → statement M
+run-spec =
+    tie.close
+    (tie.spec
+    Inv-loop
+    μ-loop
+    is-shown-requires
+    new-requires
+    zeros-requires
+    loop-holds
+    add-records
+    turn-requires
+    flush-requires
+    end-requires
+    returns
+    show-requires
+    loop-less
+    loop-again
+    returns-2)
