@@ -13,7 +13,7 @@ use Rattle.journal.specs.declared.entry.Entry.the-variants.{Read, End, R
 use Rattle.journal.specs.Bytes.{AllBytes}
 use Rattle.journal.specs.Writing.{recordOf, journalOf}
 use Rattle.journal.specs.Reading.{readAt, Ending, ended, broken, Holds, no-more, breaks, one-more}
-use Rattle.journal.specs.Claims.{AllFit}
+use Rattle.journal.specs.Claims.{AllCallsFit}
 use Rattle.journal.proofs.Places.{not-at-end}
 use Rattle.journal.proofs.WasWritten.{read-means, was-written}
 
@@ -91,7 +91,7 @@ was-in bytes at c next rest there place behind =
     ∙ (λ i. there i ++ (drop-drop (length (recordOf c)) at bytes ∙ ap (λ (p : ℕ). drop p bytes) (sym place) ∙ behind) i)
 
 pub held-was-written : (bytes : List ℕ) (at : ℕ) (cs : List Call) (end : Ending) → AllBytes bytes → Holds bytes at cs end
-    → (rest : List ℕ) × (drop at bytes ≡ journalOf cs ++ rest) × (end ≡ ended → rest ≡ []) × AllFit cs
+    → (rest : List ℕ) × (drop at bytes ≡ journalOf cs ++ rest) × (end ≡ ended → rest ≡ []) × AllCallsFit cs
 unfolding journalOf
 held-was-written bytes at cs end all (no-more e) = (drop at bytes, refl, (λ x. ends-there bytes at e), tt)
 held-was-written bytes at cs end all (breaks e) = (drop at bytes, refl, (λ x. clash (cc)), tt)

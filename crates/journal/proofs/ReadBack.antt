@@ -13,7 +13,7 @@ use Rattle.journal.specs.declared.entry.Entry.the-variants.{Read}
 use Rattle.journal.specs.Bytes.{inBytes, number}
 use Rattle.journal.specs.Writing.{inFields, bodyOf, recordOf, journalOf}
 use Rattle.journal.specs.Reading.{lengthIn, kindIn, fieldIn, callOf, judged, readHere, readAt, ended, Holds, no-more, one-more}
-use Rattle.journal.specs.Claims.{AllFit}
+use Rattle.journal.specs.Claims.{AllCallsFit}
 use Rattle.journal.specs.Writing.{kindOf}
 use Rattle.journal.proofs.Numbers.{made-again}
 use Rattle.journal.proofs.KnownKinds.{judged-right}
@@ -84,7 +84,7 @@ reads-back c fits before after =
     ap (λ (here : List ℕ). readHere here (length before)) (drop-append-seam before (recordOf c ++ after)) ∙ here-own c after (length before) fits
 
 -- a whole journal, behind other bytes
-holds-behind : (cs : List Call) → AllFit cs → (before : List ℕ) → Holds (before ++ journalOf cs) (length before) cs ended
+holds-behind : (cs : List Call) → AllCallsFit cs → (before : List ℕ) → Holds (before ++ journalOf cs) (length before) cs ended
 unfolding journalOf
 holds-behind [] fit before =
     no-more (sym (read-end (before ++ []) (length before) (omega (arith, length-append before []))))
@@ -95,5 +95,5 @@ holds-behind (c ∷ cs) fit before =
     (subst (λ (at : ℕ). Holds (before ++ (recordOf c ++ journalOf cs)) at cs ended) (length-append before (recordOf c))
     (subst (λ (bytes : List ℕ). Holds bytes (length (before ++ recordOf c)) cs ended) (append-assoc before (recordOf c) (journalOf cs)) onward))
 
-pub written-holds : (cs : List Call) → AllFit cs → Holds (journalOf cs) 0 cs ended
+pub written-holds : (cs : List Call) → AllCallsFit cs → Holds (journalOf cs) 0 cs ended
 written-holds cs fit = holds-behind cs fit []

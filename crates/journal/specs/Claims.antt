@@ -18,9 +18,9 @@ use Rattle.journal.specs.Writing.{kindOf, recordOf, journalOf, Written}
 use Rattle.journal.specs.Reading.{lengthIn, kindIn, readAt, Ending, ended, Holds}
 
 -- each call's fields are 32-bit numbers
-abbrev pub AllFit : List Call → Type 0
-AllFit [] = Unit
-AllFit (c ∷ cs) = Fits c × AllFit cs
+abbrev pub AllCallsFit : List Call → Type 0
+AllCallsFit [] = Unit
+AllCallsFit (c ∷ cs) = Fits c × AllCallsFit cs
 
 -- "Setup of 100 with 6, take 20, hand back 0 is, whole: 0A 00 03 00 64 00 00 00 06 00 00 00 06 00 01 00 14 00 00 00 06 00 02 00 00 00 00 00."
 abbrev pub exampleCalls : List Call
@@ -66,12 +66,12 @@ pub record JournalClaims : Type 0 where
   -- ---- "Reading back what was written gives the same calls"
   pub reads-back : (c : Call) → Fits c → (before after : List ℕ)
       → readAt (before ++ (recordOf c ++ after)) (length before) ≡ Read c (length before + length (recordOf c))
-  pub written-holds : (cs : List Call) → AllFit cs → Holds (journalOf cs) 0 cs ended
+  pub written-holds : (cs : List Call) → AllCallsFit cs → Holds (journalOf cs) 0 cs ended
   -- and what is read as a call is, byte for byte, what the writer writes for it: of a record, and of a journal up to where it ends
   pub was-written : (bytes : List ℕ) (at next : ℕ) (c : Call) → AllBytes bytes → readAt bytes at ≡ Read c next
       → (take (length (recordOf c)) (drop at bytes) ≡ recordOf c) × (next ≡ at + length (recordOf c)) × (next ≤ length bytes) × Fits c
   pub held-was-written : (bytes : List ℕ) (at : ℕ) (cs : List Call) (end : Ending) → AllBytes bytes → Holds bytes at cs end
-      → (rest : List ℕ) × (drop at bytes ≡ journalOf cs ++ rest) × (end ≡ ended → rest ≡ []) × AllFit cs
+      → (rest : List ℕ) × (drop at bytes ≡ journalOf cs ++ rest) × (end ≡ ended → rest ≡ []) × AllCallsFit cs
   -- ---- every list of bytes holds some calls and ends, in one way
   pub holds-some : (bytes : List ℕ) (at : ℕ) → (cs : List Call) × (end : Ending) × Holds bytes at cs end
   pub holds-one : (bytes : List ℕ) (at : ℕ) (cs ds : List Call) (end other : Ending) → Holds bytes at cs end → Holds bytes at ds other

@@ -12,6 +12,7 @@ struct Trial {
 fn try_one(
     trial: Trial,
     journal: &mut [u8],
+    out: &mut [u8; 65536],
     tally: &mut [u64; 16],
     nodes: &mut [u32; 8192],
     free_nodes: &mut [u32; 1024],
@@ -21,7 +22,7 @@ fn try_one(
     let bytes = journal_lines::front(journal, damaged.len);
     Trial {
         seed: damaged.seed,
-        sum: replaying_one::count(trial.sum, bytes, tally, nodes, free_nodes),
+        sum: replaying_one::replay(trial.sum, false, bytes, out, tally, nodes, free_nodes),
     }
 }
 
@@ -35,7 +36,7 @@ fn print_at(journals: u32, every: u32, sum: u32) {
 }
 
 // So many journals, with a line after every so many.
-pub fn try_drawn(journals: u32, every: u32) {
+pub fn try_drawn(journals: u32, every: u32, out: &mut [u8; 65536]) {
     let mut journal = [0u8; 256];
     let mut tally = [0u64; 16];
     let mut nodes = [0u32; 8192];
@@ -44,7 +45,14 @@ pub fn try_drawn(journals: u32, every: u32) {
     let mut i = 0u32;
     while i < journals {
         i += 1;
-        trial = try_one(trial, &mut journal, &mut tally, &mut nodes, &mut free_nodes);
+        trial = try_one(
+            trial,
+            &mut journal,
+            out,
+            &mut tally,
+            &mut nodes,
+            &mut free_nodes,
+        );
         print_at(i, every, trial.sum);
     }
     counts::print(&tally);

@@ -24,5 +24,5 @@ fn main() {
     let mut out = [0u8; 65536];
     try_rows(&mut input, &mut journal, &mut out);
     room::try_all();
-    damage::try_drawn(DAMAGED, EVERY);
+    damage::try_drawn(DAMAGED, EVERY, &mut out);
 }

@@ -35,7 +35,9 @@ same-length-2 : tie.Need-same-length-2
 same-length-2 c = search needs
 
 returns : tie.Need-returns
-returns c = as-came (c .before .before .before .before .before .before .before .before .call .given .1) (c .before .before .take .ensures)
+returns c =
+    let called = c .before .before in
+    as-came (called .before .before .before .before .before .before .call .given .1) (called .take .ensures)
 
 same-length-3 : tie.Need-same-length-3
 same-length-3 c = search needs
@@ -44,7 +46,9 @@ same-length-4 : tie.Need-same-length-4
 same-length-4 c = search needs
 
 returns-2 : tie.Need-returns-2
-returns-2 c = as-came (c .before .before .before .before .before .before .before .before .before .before .call2 .given .1) (c .before .before .before .before .hand-back .ensures)
+returns-2 c =
+    let called = c .before .before .before .before in
+    as-came (called .before .before .before .before .before .before .call2 .given .1) (called .hand-back .ensures)
 
 same-length-5 : tie.Need-same-length-5
 same-length-5 c = search needs
@@ -53,7 +57,10 @@ same-length-6 : tie.Need-same-length-6
 same-length-6 c = search needs
 
 returns-3 : tie.Need-returns-3
-returns-3 c = as-came (c .before .before .before .before .before .before .before .before .before .before .call3 .given .1) (c .before .before .before .before .set-up .ensures (c .before .before .before .before .before .before .before .before .before .before .before .before .before .before .args .t))
+returns-3 c =
+    let called = c .before .before .before .before in
+    let came = called .before .before .before .before .before .before in
+    as-came (came .call3 .given .1) (called .set-up .ensures (came .before .before .before .before .args .t))
 
 same-length-7 : tie.Need-same-length-7
 same-length-7 c = search needs
@@ -62,7 +69,9 @@ same-length-8 : tie.Need-same-length-8
 same-length-8 c = search needs
 
 returns-4 : tie.Need-returns-4
-returns-4 c = as-came (c .before .before .before .before .before .before .before .before .before .enum-told .given .1) (c .before .before .before .before .reset .ensures)
+returns-4 c =
+    let called = c .before .before .before .before in
+    as-came (called .before .before .before .before .before .enum-told .given .1) (called .reset .ensures)
 
 pub make-spec : {M : Type 1} → statement M
 make-spec =

@@ -17,7 +17,9 @@ same-length-2 : tie.Need-same-length-2
 same-length-2 c = search needs
 
 returns : tie.Need-returns
-returns c = change-told (c .before .before .before .before .before .before .before .before .before .before .before .before .before .args .call) (c .of-change .ensures) (c .before .before .before .before .before .before .make .ensures)
+returns c =
+    let made = c .before .before .before .before .before .before in
+    change-told (made .before .before .before .before .before .before .before .args .call) (c .of-change .ensures) (made .make .ensures)
 
 pub change-spec : {M : Type 1} → statement M
 change-spec =

@@ -64,7 +64,9 @@ same-length-2 : tie.Need-same-length-2
 same-length-2 c = search needs
 
 returns : tie.Need-returns
-returns c = as-came inPlace _ (c .before .before .before .before .before .before .before .before .before .before .call .given .1) (c .before .before .before .before .change .ensures)
+returns c =
+    let called = c .before .before .before .before in
+    as-came inPlace _ (called .before .before .before .before .before .before .call .given .1) (called .change .ensures)
 
 same-length-3 : tie.Need-same-length-3
 same-length-3 c = search needs
@@ -73,7 +75,9 @@ same-length-4 : tie.Need-same-length-4
 same-length-4 c = search needs
 
 returns-2 : tie.Need-returns-2
-returns-2 c = as-came inPlace _ (c .before .before .before .before .before .before .before .before .before .enum-told .given .1) (c .before .before .before .before .change2 .ensures)
+returns-2 c =
+    let called = c .before .before .before .before in
+    as-came inPlace _ (called .before .before .before .before .before .enum-told .given .1) (called .change2 .ensures)
 
 same-length-5 : tie.Need-same-length-5
 same-length-5 c = search needs
@@ -82,7 +86,9 @@ same-length-6 : tie.Need-same-length-6
 same-length-6 c = search needs
 
 returns-3 : tie.Need-returns-3
-returns-3 c = as-came inPlace _ (c .before .before .before .before .before .before .before .before .before .before .call2 .given .1) (c .before .before .before .before .change3 .ensures)
+returns-3 c =
+    let called = c .before .before .before .before in
+    as-came inPlace _ (called .before .before .before .before .before .before .call2 .given .1) (called .change3 .ensures)
 
 same-length-7 : tie.Need-same-length-7
 same-length-7 c = search needs
@@ -91,7 +97,9 @@ same-length-8 : tie.Need-same-length-8
 same-length-8 c = search needs
 
 returns-4 : tie.Need-returns-4
-returns-4 c = as-came inPlace _ (c .before .before .before .before .before .before .before .before .before .before .call3 .given .1) (c .before .before .before .before .change4 .ensures)
+returns-4 c =
+    let called = c .before .before .before .before in
+    as-came inPlace _ (called .before .before .before .before .before .before .call3 .given .1) (called .change4 .ensures)
 
 same-length-9 : tie.Need-same-length-9
 same-length-9 c = search needs

@@ -28,7 +28,10 @@ same-length-2 : tie.Need-same-length-2
 same-length-2 c = search needs
 
 returns : tie.Need-returns
-returns c = found (sym (c .before .before .before .before .before .before .before .before .before .before .before .before .before .read .ensures) ∙ c .before .before .before .before .before .before .before .before .before .before .before .call .given .1) (answered (c .before .before .before .before .before .make .ensures))
+returns c =
+    let made = c .before .before .before .before .before in
+    let came = made .before .before .before .before .before .before in
+    found (sym (came .before .before .read .ensures) ∙ came .call .given .1) (answered (made .make .ensures))
 
 returns-2 : tie.Need-returns-2
 returns-2 c = found (sym (c .before .before .read .ensures) ∙ c .enum-told .given .1) (at-end refl)

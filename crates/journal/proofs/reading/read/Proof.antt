@@ -39,7 +39,7 @@ returns-4 : tie.Need-returns-4
 returns-4 c =
     let given = c .before .before .before .before .before .before .args in
     read-low (now (given .bytes)) (given .at) (c .before .before .get16 .result) (c .before .before .get16 .ensures .0)
-    (c .before .before .before .if2 .left) (omega arith) (c .if4 .taken)
+    (c .before .before .before .if2 .left) (omega arith) (omega arith)
 
 record-at-requires : tie.Need-record-at-requires
 record-at-requires c κs = search needs
@@ -50,7 +50,7 @@ returns-5 c =
     let named = c .before .before .before .get16 in
     c .record-at .ensures
     ∙ read-whole (now (given .bytes)) (given .at) (named .result) (named .ensures .0) (c .before .before .before .before .if2 .left) (omega arith)
-    (c .before .if4 .left)
+    (omega arith)
 
 pub read-spec : {M : Type 1} → statement M
 read-spec =

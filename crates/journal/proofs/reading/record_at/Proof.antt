@@ -26,27 +26,27 @@ reset-at-requires c κs = search needs
 
 returns : tie.Need-returns
 returns c =
+    let kind = c .before .before .get16 in
     let given = c .before .before .before .before .args in
-    c .take-at .ensures
-    ∙ by-kind (given .len) (given .at) (c .before .before .get16 .result) 1 (now (given .bytes)) (c .before .before .get16 .ensures .0) (c .before .match .keys1)
+    c .take-at .ensures ∙ by-kind (given .len) (given .at) (kind .result) 1 (now (given .bytes)) (kind .ensures .0) (c .before .match .keys1)
 
 returns-2 : tie.Need-returns-2
 returns-2 c =
+    let kind = c .before .before .get16 in
     let given = c .before .before .before .before .args in
-    c .hand-back-at .ensures
-    ∙ by-kind (given .len) (given .at) (c .before .before .get16 .result) 2 (now (given .bytes)) (c .before .before .get16 .ensures .0) (c .before .match .keys2)
+    c .hand-back-at .ensures ∙ by-kind (given .len) (given .at) (kind .result) 2 (now (given .bytes)) (kind .ensures .0) (c .before .match .keys2)
 
 returns-3 : tie.Need-returns-3
 returns-3 c =
+    let kind = c .before .before .get16 in
     let given = c .before .before .before .before .args in
-    c .set-up-at .ensures
-    ∙ by-kind (given .len) (given .at) (c .before .before .get16 .result) 3 (now (given .bytes)) (c .before .before .get16 .ensures .0) (c .before .match .keys3)
+    c .set-up-at .ensures ∙ by-kind (given .len) (given .at) (kind .result) 3 (now (given .bytes)) (kind .ensures .0) (c .before .match .keys3)
 
 returns-4 : tie.Need-returns-4
 returns-4 c =
+    let kind = c .before .before .get16 in
     let given = c .before .before .before .before .args in
-    c .reset-at .ensures
-    ∙ by-kind (given .len) (given .at) (c .before .before .get16 .result) 4 (now (given .bytes)) (c .before .before .get16 .ensures .0) (c .before .match .keys4)
+    c .reset-at .ensures ∙ by-kind (given .len) (given .at) (kind .result) 4 (now (given .bytes)) (kind .ensures .0) (c .before .match .keys4)
 
 returns-5 : tie.Need-returns-5
 returns-5 c =

@@ -60,28 +60,44 @@ same-length c = search needs
 
 returns : tie.Need-returns
 unfolding recordOf bodyOf inFields inBytes
-returns c = c .before .before .put-one .ensures ∙ sym (ap (λ (call : Call). sets (now (c .before .before .before .before .before .before .before .before .args .out)) (c .before .before .before .before .before .before .before .before .args .at) (recordOf call)) (c .before .before .before .before .before .call .given .1))
+returns c =
+    let came = c .before .before .before .before .before in
+    let given = came .before .before .before .args in
+    c .before .before .put-one .ensures
+    ∙ sym (ap (λ (call : Call). sets (now (given .out)) (given .at) (recordOf call)) (came .call .given .1))
 
 same-length-2 : tie.Need-same-length-2
 same-length-2 c = search needs
 
 returns-2 : tie.Need-returns-2
 unfolding recordOf bodyOf inFields inBytes
-returns-2 c = c .before .before .put-one2 .ensures ∙ sym (ap (λ (call : Call). sets (now (c .before .before .before .before .before .before .before .before .args .out)) (c .before .before .before .before .before .before .before .before .args .at) (recordOf call)) (c .before .before .before .before .before .call2 .given .1))
+returns-2 c =
+    let came = c .before .before .before .before .before in
+    let given = came .before .before .before .args in
+    c .before .before .put-one2 .ensures
+    ∙ sym (ap (λ (call : Call). sets (now (given .out)) (given .at) (recordOf call)) (came .call2 .given .1))
 
 same-length-3 : tie.Need-same-length-3
 same-length-3 c = search needs
 
 returns-3 : tie.Need-returns-3
 unfolding recordOf bodyOf inFields inBytes
-returns-3 c = c .before .before .put-two .ensures ∙ sym (ap (λ (call : Call). sets (now (c .before .before .before .before .before .before .before .before .args .out)) (c .before .before .before .before .before .before .before .before .args .at) (recordOf call)) (c .before .before .before .before .before .call3 .given .1))
+returns-3 c =
+    let came = c .before .before .before .before .before in
+    let given = came .before .before .before .args in
+    c .before .before .put-two .ensures
+    ∙ sym (ap (λ (call : Call). sets (now (given .out)) (given .at) (recordOf call)) (came .call3 .given .1))
 
 same-length-4 : tie.Need-same-length-4
 same-length-4 c = search needs
 
 returns-4 : tie.Need-returns-4
 unfolding recordOf bodyOf inFields inBytes
-returns-4 c = c .before .before .put-front .ensures ∙ sym (ap (λ (call : Call). sets (now (c .before .before .before .before .before .before .before .args .out)) (c .before .before .before .before .before .before .before .args .at) (recordOf call)) (c .before .before .before .before .enum-told .given .1))
+returns-4 c =
+    let came = c .before .before .before .before in
+    let given = came .before .before .before .args in
+    c .before .before .put-front .ensures
+    ∙ sym (ap (λ (call : Call). sets (now (given .out)) (given .at) (recordOf call)) (came .enum-told .given .1))
 
 pub put-spec : {M : Type 1} → statement M
 put-spec =

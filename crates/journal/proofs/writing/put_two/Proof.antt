@@ -28,11 +28,14 @@ same-length c = search needs
 
 returns : tie.Need-returns
 returns c =
-    let given = c .before .before .before .before .before .before .before .before .before .before .before .before .before .args in
-    let front : List ℕ = inBytes 2 10 ++ inBytes 2 (given .kind) in
-    then-stored (front ++ inBytes 4 (given .first)) (inBytes 4 (given .second)) _ _ _ (given .at) 8 (with-field-length 10 (given .kind) (given .first))
-    (then-stored front (inBytes 4 (given .first)) _ _ _ (given .at) 4 (front-length 10 (given .kind)) (c .before .before .before .before .before .before .before .before .before .before .put-front .ensures) (c .before .before .before .before .before .before .put32 .ensures))
-    (c .before .before .put322 .ensures)
+    let one = c .before .before .before .before .before .before in
+    let front = one .before .before .before .before in
+    let given = front .before .before .before .args in
+    let kinds : List ℕ = inBytes 2 10 ++ inBytes 2 (given .kind) in
+    let begun =
+    then-stored kinds (inBytes 4 (given .first)) _ _ _ (given .at) 4 (front-length 10 (given .kind)) (front .put-front .ensures) (one .put32 .ensures) in
+    then-stored (kinds ++ inBytes 4 (given .first)) (inBytes 4 (given .second)) _ _ _ (given .at) 8
+    (with-field-length 10 (given .kind) (given .first)) begun (c .before .before .put322 .ensures)
 
 pub put-two-spec : {M : Type 1} → statement M
 put-two-spec =

@@ -40,9 +40,12 @@ same-length c = search needs
 
 returns-2 : tie.Need-returns-2
 returns-2 c =
-    let given = c .before .before .before .before .before .before .before .before .args in
-    is-written (given .call) (now (given .out)) (given .at) (c .before .before .before .before .before .before .bytes-of .result) (c .before .before .before .before .before .before .bytes-of .ensures) _
-    (sym (c .before .before .before .before .before .has-room .ensures) ∙ not-false _ (c .before .before .before .before .if1 .left)) (c .before .before .put .ensures)
+    let tested = c .before .before .before .before in
+    let room = tested .before in
+    let given = tested .before .before .before .before .args in
+    let wanted = room .before .bytes-of in
+    is-written (given .call) (now (given .out)) (given .at) (wanted .result) (wanted .ensures) _
+    (sym (room .has-room .ensures) ∙ not-false _ (tested .if1 .left)) (c .before .before .put .ensures)
 
 pub write-spec : {M : Type 1} → statement M
 write-spec =

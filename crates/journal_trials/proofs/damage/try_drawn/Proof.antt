@@ -8,11 +8,11 @@ use Rattle.journal_trials.proofs.damage.try_drawn.Statement.{statement}
 use Rattle.journal_trials.proofs.damage.try_drawn.Tie as tie
 
 abbrev Inv-loop : tie.InvT-loop
-Inv-loop journals every journal₀ tally₀ nodes₀ free-nodes₀ trial₀ i₀ journal tally nodes free-nodes trial i =
+Inv-loop journals every out₀ journal₀ tally₀ nodes₀ free-nodes₀ trial₀ i₀ out journal tally nodes free-nodes trial i =
     256 ≡ length journal
 
 abbrev μ-loop : tie.MeasureT-loop
-μ-loop journals every journal₀ tally₀ nodes₀ free-nodes₀ trial₀ i₀ journal tally nodes free-nodes trial i =
+μ-loop journals every out₀ journal₀ tally₀ nodes₀ free-nodes₀ trial₀ i₀ out journal tally nodes free-nodes trial i =
     journals - i
 
 loop-holds : tie.Need-loop-holds Inv-loop μ-loop

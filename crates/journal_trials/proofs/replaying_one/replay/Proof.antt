@@ -2,15 +2,15 @@
 use native.Mathlib.Omega.{arith}
 use borrow.Author.Needs.{needs}
 use Prim.Native.Nat.{_-_}
-use Rattle.journal_trials.proofs.replaying_one.count.Statement.{statement}
-use Rattle.journal_trials.proofs.replaying_one.count.Tie as tie
+use Rattle.journal_trials.proofs.replaying_one.replay.Statement.{statement}
+use Rattle.journal_trials.proofs.replaying_one.replay.Tie as tie
 
 abbrev Inv-loop : tie.InvT-loop
-Inv-loop sum journal tally₀ nodes₀ free-nodes₀ bin-indices₀ used-bins₀ going₀ records₀ tally nodes free-nodes bin-indices used-bins going records =
+Inv-loop sum shown journal out₀ tally₀ nodes₀ free-nodes₀ bin-indices₀ used-bins₀ going₀ records₀ out tally nodes free-nodes bin-indices used-bins going records =
     Unit {0}
 
 abbrev μ-loop : tie.MeasureT-loop
-μ-loop sum journal tally₀ nodes₀ free-nodes₀ bin-indices₀ used-bins₀ going₀ records₀ tally nodes free-nodes bin-indices used-bins going records =
+μ-loop sum shown journal out₀ tally₀ nodes₀ free-nodes₀ bin-indices₀ used-bins₀ going₀ records₀ out tally nodes free-nodes bin-indices used-bins going records =
     65536 - records
 
 begin-requires : tie.Need-begin-requires Inv-loop μ-loop
@@ -22,8 +22,8 @@ loop-holds c = tt
 add-records : tie.Need-add-records Inv-loop μ-loop
 add-records c = search needs
 
-step-counted-requires : tie.Need-step-counted-requires Inv-loop μ-loop
-step-counted-requires c κs = search needs
+step-requires : tie.Need-step-requires Inv-loop μ-loop
+step-requires c κs = search needs
 
 returns : tie.Need-returns Inv-loop μ-loop
 returns c = search needs
@@ -37,8 +37,8 @@ loop-again c = tt
 returns-2 : tie.Need-returns-2 Inv-loop μ-loop
 returns-2 c = search needs
 
-pub count-spec : {M : Type 1} → statement M
-count-spec =
+pub replay-spec : {M : Type 1} → statement M
+replay-spec =
     tie.close
     (tie.spec
     Inv-loop
@@ -46,7 +46,7 @@ count-spec =
     begin-requires
     loop-holds
     add-records
-    step-counted-requires
+    step-requires
     returns
     loop-less
     loop-again
