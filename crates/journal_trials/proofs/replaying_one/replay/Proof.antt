@@ -6,11 +6,11 @@ use Rattle.journal_trials.proofs.replaying_one.replay.Statement.{statem
 use Rattle.journal_trials.proofs.replaying_one.replay.Tie as tie
 
 abbrev Inv-loop : tie.InvT-loop
-Inv-loop sum shown journal out₀ tally₀ nodes₀ free-nodes₀ bin-indices₀ used-bins₀ going₀ records₀ out tally nodes free-nodes bin-indices used-bins going records =
+Inv-loop sum shown journal out₀ tally₀ nodes₀ pile₀ heads₀ leaves₀ going₀ records₀ out tally nodes pile heads leaves going records =
     Unit {0}
 
 abbrev μ-loop : tie.MeasureT-loop
-μ-loop sum shown journal out₀ tally₀ nodes₀ free-nodes₀ bin-indices₀ used-bins₀ going₀ records₀ out tally nodes free-nodes bin-indices used-bins going records =
+μ-loop sum shown journal out₀ tally₀ nodes₀ pile₀ heads₀ leaves₀ going₀ records₀ out tally nodes pile heads leaves going records =
     65536 - records
 
 begin-requires : tie.Need-begin-requires Inv-loop μ-loop
