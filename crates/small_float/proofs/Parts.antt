@@ -5,7 +5,7 @@ use native.Mathlib.Nat.{div-add-mod', mod-lt, le-div-iff-mul-le, div-lt-iff-lt-m
 use native.Mathlib.Omega.{arith}
 use lib.Pow.{pow-pos, pow-mono}
 use lib.Count.{leadingZeros, leading-top}
-use Rattle.basics.proofs.Decided.{Below, below, beyond, below?}
+use Rattle.basics.proofs.Decided.{below, beyond, below?}
 use Rattle.small_float.specs.Class.{halvings, highestBit, grain, down, oneIfAny, up}
 
 -- ---- the highest set bit
@@ -26,7 +26,7 @@ pub highest-bit : (s : ℕ) → 1 ≤ s → (2 ^ highestBit s ≤ s) × (s < 2 ^
 unfolding highestBit
 highest-bit s p = halvings-between s s (omega arith) p
 
-between : (s i j : ℕ) → 2 ^ i ≤ s → s < 2 ^ suc j → i ≤ j
+pub between : (s i j : ℕ) → 2 ^ i ≤ s → s < 2 ^ suc j → i ≤ j
 between s i j p q = elim (below? j i) [ below h e ↦ absurd (omega (arith, pow-mono h)) | beyond h e ↦ h ]
 
 -- the machine's count of leading zeros gives it
@@ -63,6 +63,21 @@ steps-many s p = le-div-iff-mul-le (pow-pos (grain s)) .1 (omega (arith, eight-g
 pub steps-few : (s : ℕ) → 8 ≤ s → s / 2 ^ grain s < 16
 steps-few s p = div-lt-iff-lt-mul (pow-pos (grain s)) .1 (omega (arith, eight-grains s p, highest-bit s (omega arith) .1))
 
+-- the remainder of those steps by 8 is what exceeds 8
+pub down-steps : (s : ℕ) → 8 ≤ s → down s ≡ 8 * grain s + s / 2 ^ grain s
+unfolding down
+down-steps s p = elim (below? s 8) [
+  | below h e ↦ absurd (omega arith)
+  | beyond h e ↦ rw e (omega (arith, steps-many s p, steps-few s p))
+]
+
+pub up-steps : (s : ℕ) → 8 ≤ s → up s ≡ 8 * grain s + s / 2 ^ grain s + oneIfAny (s % 2 ^ grain s)
+unfolding up
+up-steps s p = elim (below? s 8) [
+  | below h e ↦ absurd (omega arith)
+  | beyond h e ↦ rw e (omega (arith, steps-many s p, steps-few s p))
+]
+
 pub record Parts (s : ℕ) : Type 0 where
   pub g : ℕ
   pub m : ℕ
@@ -75,7 +90,6 @@ pub record Parts (s : ℕ) : Type 0 where
   pub up-is : up s ≡ 8 * g + m + oneIfAny rest
 
 pub parts : (s : ℕ) → 8 ≤ s → Parts s
-unfolding down up grain
 parts s p = record {
   g = grain s;
   m = s / 2 ^ grain s;
@@ -84,17 +98,9 @@ parts s p = record {
   m-high = steps-few s p;
   rest-small = mod-lt s (pow-pos (grain s));
   sum = div-add-mod' s (2 ^ grain s);
-  down-is = down-by (below? s 8);
-  up-is = up-by (below? s 8);
+  down-is = down-steps s p;
+  up-is = up-steps s p;
 }
-  where
-    down-by : Below s 8 → down s ≡ 8 * grain s + s / 2 ^ grain s
-    down-by (below h e) = absurd (omega arith)
-    down-by (beyond h e) = rw e (omega (arith, steps-many s p, steps-few s p))
-
-    up-by : Below s 8 → up s ≡ 8 * grain s + s / 2 ^ grain s + oneIfAny (s % 2 ^ grain s)
-    up-by (below h e) = absurd (omega arith)
-    up-by (beyond h e) = rw e (omega (arith, steps-many s p, steps-few s p))
 
 -- a size below 8 is its own class
 pub down-small : (s : ℕ) → s < 8 → down s ≡ s

@@ -1,34 +1,28 @@
--- The code is `down`, word for word. Assumes nothing.
-use borrow.Author.Tests.{lt-ltb, le-ltb}
+-- The code's sum is `down` for every size. Assumes nothing.
+use mathlib.Core.Path.{sym}
+use native.Mathlib.Omega.{arith}
 use borrow.Author.Needs.{needs}
-use Rattle.small_float.specs.Class.{down}
+use Rattle.small_float.proofs.Straight.{straight, few-steps}
 use Rattle.small_float.proofs.uint_to_float_round_down.Statement.{statement}
 use Rattle.small_float.proofs.uint_to_float_round_down.Tie as tie
 
-returns : tie.Need-returns
-unfolding down
-returns c = rw (lt-ltb _ _ (c .if1 .taken))
+grain-of-requires : tie.Need-grain-of-requires
+grain-of-requires c κs = search needs
 
-mantissa-start-bit-requires : tie.Need-mantissa-start-bit-requires
-mantissa-start-bit-requires c κs = search needs
+mul-t4 : tie.Need-mul-t4
+mul-t4 c = search needs
 
-shr-mantissa : tie.Need-shr-mantissa
-shr-mantissa c = search needs
+shr-t5 : tie.Need-shr-t5
+shr-t5 c = search needs
 
 add-t6 : tie.Need-add-t6
-add-t6 c = search needs
+add-t6 c =
+    let g = c .grain-of in
+    let size = c .before .args .size .0 in
+    omega (arith, g .ensures .1, few-steps size (g .result) size (g .ensures .0) (omega arith))
 
-mul-t7 : tie.Need-mul-t7
-mul-t7 c = search needs
-
-add-t8 : tie.Need-add-t8
-add-t8 c = search needs
-
-returns-2 : tie.Need-returns-2
-unfolding down
-returns-2 c = rw (le-ltb _ _ (c .before .if1 .left), ← (c .mantissa-start-bit .ensures .0))
+returns : tie.Need-returns
+returns c = let g = c .grain-of in sym (straight _ (g .result) (g .ensures .0) .down-is)
 
 pub uint-to-float-round-down-spec : {M : Type 1} → statement M
-uint-to-float-round-down-spec =
-    tie.close
-    (tie.spec returns mantissa-start-bit-requires shr-mantissa add-t6 mul-t7 add-t8 returns-2)
+uint-to-float-round-down-spec = tie.close (tie.spec grain-of-requires mul-t4 shr-t5 add-t6 returns)
