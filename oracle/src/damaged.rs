@@ -16,11 +16,12 @@ const STRIDE: u32 = 1_000;
 /// What ends a journal in the digest.
 const JOURNAL_END: u32 = u32::MAX;
 
-/// The last refusal of a call.
-const LAST_REFUSAL: u32 = 6;
+/// What calls of a journal are refused as. Of the smallest store, which knows 7
+/// alone, a journal does not ask.
+const REFUSALS: [u32; 7] = [1, 2, 3, 4, 5, 6, 8];
 
 pub fn write(out: &mut impl Write, journals: u32) -> io::Result<()> {
-    let mut draws = Draws { seed: SEED };
+    let mut draws = Draws::new(SEED);
     let mut tally = Tally::default();
     for number in 1..=journals {
         tally.count_journal(&draws.journal());
@@ -31,11 +32,31 @@ pub fn write(out: &mut impl Write, journals: u32) -> io::Result<()> {
     tally.write(out)
 }
 
+/// A span as a hand back names it.
+#[derive(Clone, Copy, Debug, Default, PartialEq, Eq)]
+struct Pair {
+    record: u32,
+    offset: u32,
+}
+
 struct Draws {
     seed: u32,
+    /// The span that a take would get if nothing had come back and every take
+    /// since the setup or reset was granted.
+    next: Pair,
+    /// The one that the last take would have got.
+    last: Pair,
 }
 
 impl Draws {
+    fn new(seed: u32) -> Self {
+        Self {
+            seed,
+            next: Pair::default(),
+            last: Pair::default(),
+        }
+    }
+
     fn draw(&mut self) -> u32 {
         self.seed = next(self.seed);
         self.seed
@@ -57,6 +78,7 @@ impl Draws {
     }
 
     fn journal(&mut self) -> Vec<u8> {
+        self.forget_spans();
         let calls = 1 + self.below(12);
         let calls: Vec<Call> = (0..calls).map(|at| self.call(at)).collect();
         let mut journal = written(&calls);
@@ -75,7 +97,7 @@ impl Draws {
         };
         match kind {
             0 => self.set_up(),
-            1 => Call::Reset,
+            1 => self.reset(),
             2..=9 => self.take(),
             _ => self.hand_back(),
         }
@@ -90,7 +112,18 @@ impl Draws {
             3 => 131_073,
             _ => 2 + self.below(40),
         };
+        self.forget_spans();
         Call::SetUp { size, count }
+    }
+
+    fn reset(&mut self) -> Call {
+        self.forget_spans();
+        Call::Reset
+    }
+
+    fn forget_spans(&mut self) {
+        self.next = Pair::default();
+        self.last = Pair::default();
     }
 
     fn take(&mut self) -> Call {
@@ -98,15 +131,36 @@ impl Draws {
             0 => self.shifted_word(),
             _ => self.below(60),
         };
+        self.last = self.next;
+        self.next = Pair {
+            record: self.last.record + 1,
+            offset: self.last.offset.wrapping_add(size),
+        };
         Call::Take { size }
     }
 
+    /// Half of all name the record of the last take, and most of these its start.
     fn hand_back(&mut self) -> Call {
-        let record = match self.below(8) {
-            0 => self.word(),
-            _ => self.below(8),
+        let Pair { record, offset } = match self.below(8) {
+            0 => Pair {
+                record: self.word(),
+                offset: self.word(),
+            },
+            1 => Pair {
+                record: self.below(8),
+                offset: self.below(60),
+            },
+            2 => Pair {
+                record: self.last.record,
+                offset: self.last.offset.wrapping_add(1),
+            },
+            3 | 4 => Pair {
+                record: self.below(8),
+                offset: 0,
+            },
+            _ => self.last,
         };
-        Call::HandBack { record }
+        Call::HandBack { record, offset }
     }
 
     /// A cut, or a byte that is drawn, set to 255 or counted up. An empty journal
@@ -141,7 +195,8 @@ struct Tally {
     wrong_length: u32,
     granted: u32,
     done: u32,
-    refused: [u32; LAST_REFUSAL as usize],
+    /// In the order of `REFUSALS`.
+    refused: [u32; REFUSALS.len()],
 }
 
 impl Tally {
@@ -175,8 +230,8 @@ impl Tally {
             }
             Line::Refused(number) => {
                 self.fold(number);
-                if number <= LAST_REFUSAL {
-                    self.refused[number as usize - 1] += 1;
+                if let Some(at) = REFUSALS.iter().position(|&refusal| refusal == number) {
+                    self.refused[at] += 1;
                 }
             }
         }
@@ -192,7 +247,7 @@ impl Tally {
         writeln!(out, "{UNKNOWN_KIND} {}", self.unknown_kind)?;
         writeln!(out, "{WRONG_LENGTH} {}", self.wrong_length)?;
         writeln!(out, "granted {}", self.granted)?;
-        for (refused, number) in self.refused.iter().zip(1..) {
+        for (number, refused) in REFUSALS.iter().zip(self.refused) {
             writeln!(out, "refused {number} {refused}")?;
         }
         writeln!(out, "done {}", self.done)
@@ -207,25 +262,44 @@ mod tests {
     /// The first seeds, worked out apart from this program.
     #[test]
     fn draws_are_those_of_the_fixed_generator() {
-        let mut draws = Draws { seed: SEED };
+        let mut draws = Draws::new(SEED);
         assert_eq!(draws.draw(), 1_015_568_748);
         assert_eq!(draws.draw(), 1_586_005_467);
-        let mut draws = Draws { seed: SEED };
+        let mut draws = Draws::new(SEED);
         assert_eq!(draws.below(12), 15_496 % 12);
-        let mut draws = Draws { seed: SEED };
+        let mut draws = Draws::new(SEED);
         assert_eq!(draws.word(), 15_496 * 65_536 + 24_200);
     }
 
     #[test]
+    fn the_last_take_s_span_is_known_until_a_setup_or_a_reset() {
+        let mut draws = Draws::new(SEED);
+        let mut offset = 0;
+        for record in 0..3 {
+            let Call::Take { size } = draws.take() else {
+                panic!("a take is drawn");
+            };
+            assert_eq!(draws.last, Pair { record, offset });
+            offset = offset.wrapping_add(size);
+        }
+        assert_eq!(draws.next, Pair { record: 3, offset });
+        draws.reset();
+        assert_eq!([draws.next, draws.last], [Pair::default(); 2]);
+        draws.take();
+        draws.set_up();
+        assert_eq!([draws.next, draws.last], [Pair::default(); 2]);
+    }
+
+    #[test]
     fn an_empty_journal_draws_no_damage() {
-        let mut draws = Draws { seed: SEED };
+        let mut draws = Draws::new(SEED);
         draws.damage(&mut Vec::new());
         assert_eq!(draws.seed, SEED);
     }
 
     #[test]
     fn a_journal_is_at_most_144_bytes() {
-        let mut draws = Draws { seed: SEED };
+        let mut draws = Draws::new(SEED);
         assert!((0..2_000).all(|_| draws.journal().len() <= 144));
     }
 
@@ -239,13 +313,13 @@ mod tests {
         tally.count_journal(&[0]);
         let digest = JOURNAL_END.wrapping_mul(31).wrapping_add(CUT);
         assert_eq!(tally.digest, mix(digest, JOURNAL_END));
-        assert_eq!((tally.cut, tally.refused), (1, [0; 6]));
+        assert_eq!((tally.cut, tally.refused), (1, [0; 7]));
     }
 
     /// Every journal has one end, and every call one line.
     #[test]
     fn the_counters_add_up() {
-        let mut draws = Draws { seed: SEED };
+        let mut draws = Draws::new(SEED);
         let mut tally = Tally::default();
         let mut calls = 0;
         for _ in 0..500 {

@@ -1,6 +1,7 @@
-//! Journals of calls, as request 1 of document 02 has them: a record is the
-//! length of what follows, a kind, and the fields of a call, all little-endian.
-//! Written from the request alone, so that the port can be held against it.
+//! Journals of calls, as request 1 of document 02 has them and request 3 amends
+//! them: a record is the length of what follows, a kind, and the fields of a call,
+//! all little-endian. Written from the requests alone, so that the port can be
+//! held against it.
 
 use std::io::{self, Write};
 
@@ -22,7 +23,7 @@ const KIND_LENGTH: usize = 2;
 #[derive(Clone, Copy, Debug, PartialEq, Eq)]
 pub enum Call {
     Take { size: u32 },
-    HandBack { record: u32 },
+    HandBack { record: u32, offset: u32 },
     SetUp { size: u32, count: u32 },
     Reset,
 }
@@ -31,7 +32,9 @@ impl Call {
     pub fn write(self, journal: &mut impl Write) -> io::Result<()> {
         match self {
             Call::Take { size } => write_record(journal, TAKE, &[size]),
-            Call::HandBack { record } => write_record(journal, HAND_BACK, &[record]),
+            Call::HandBack { record, offset } => {
+                write_record(journal, HAND_BACK, &[record, offset])
+            }
             Call::SetUp { size, count } => write_record(journal, SET_UP, &[size, count]),
             Call::Reset => write_record(journal, RESET, &[]),
         }
@@ -106,8 +109,9 @@ fn call(record: &[u8]) -> Result<Call, u32> {
     let fields = &record[KIND_LENGTH..];
     match (half_word(record), record.len()) {
         (TAKE, 6) => Ok(Call::Take { size: word(fields) }),
-        (HAND_BACK, 6) => Ok(Call::HandBack {
+        (HAND_BACK, 10) => Ok(Call::HandBack {
             record: word(fields),
+            offset: word(&fields[4..]),
         }),
         (SET_UP, 10) => Ok(Call::SetUp {
             size: word(fields),
@@ -127,11 +131,11 @@ fn word(bytes: &[u8]) -> u32 {
     u32::from_le_bytes([bytes[0], bytes[1], bytes[2], bytes[3]])
 }
 
-/// The request's example, byte by byte.
-pub const EXAMPLE: [u8; 28] = [
+/// Request 1's example as request 3 amends it, byte by byte.
+pub const EXAMPLE: [u8; 32] = [
     0x0a, 0x00, 0x03, 0x00, 0x64, 0x00, 0x00, 0x00, 0x06, 0x00, 0x00, 0x00, //
     0x06, 0x00, 0x01, 0x00, 0x14, 0x00, 0x00, 0x00, //
-    0x06, 0x00, 0x02, 0x00, 0x00, 0x00, 0x00, 0x00,
+    0x0a, 0x00, 0x02, 0x00, 0x00, 0x00, 0x00, 0x00, 0x00, 0x00, 0x00, 0x00,
 ];
 
 #[cfg(test)]
@@ -144,7 +148,10 @@ mod tests {
             count: 0x0102_0304,
         },
         Call::Take { size: 0x0506_0708 },
-        Call::HandBack { record: u32::MAX },
+        Call::HandBack {
+            record: u32::MAX,
+            offset: 0x090a_0b0c,
+        },
         Call::Reset,
         Call::Take { size: 0 },
     ];
@@ -157,10 +164,25 @@ mod tests {
                 count: 6,
             },
             Call::Take { size: 20 },
-            Call::HandBack { record: 0 },
+            Call::HandBack {
+                record: 0,
+                offset: 0,
+            },
         ];
         assert_eq!(written(&calls), EXAMPLE);
         assert!(read(&EXAMPLE).eq(calls.map(Ok)));
+    }
+
+    #[test]
+    fn a_hand_back_has_the_record_and_then_the_offset() {
+        let call = Call::HandBack {
+            record: 0x0403_0201,
+            offset: 0x0807_0605,
+        };
+        assert_eq!(written(&[call]), [10, 0, 2, 0, 1, 2, 3, 4, 5, 6, 7, 8]);
+        // as request 1 had it, without the offset
+        let old = [6, 0, 2, 0, 1, 2, 3, 4];
+        assert!(read(&old).eq([Err(WRONG_LENGTH)]));
     }
 
     #[test]

@@ -1,6 +1,7 @@
 //! Journals made by hand, and the lines that a replay of each must print: every
 //! refusal, every cut, lengths that are right and wrong for kinds that are some
-//! and none, and the limits of counts, sizes and record numbers.
+//! and none, the limits of counts, sizes and record numbers, and offsets that are
+//! not the record's.
 
 use std::io::{self, Write};
 
@@ -60,10 +61,11 @@ fn cases() -> Vec<Case> {
     journals.extend(refusals());
     journals.extend(cuts());
     journals.extend(lengths());
+    journals.extend(hand_backs_in_part());
     let mut cases: Vec<Case> = journals.into_iter().map(plain).collect();
     cases.extend(greatest_lengths());
-    let journals = stores().into_iter().chain(counts()).chain(limits());
-    cases.extend(journals.map(|calls| plain(written(&calls))));
+    let journals = [stores(), counts(), limits(), offsets()].into_iter();
+    cases.extend(journals.flatten().map(|calls| plain(written(&calls))));
     cases
 }
 
@@ -75,8 +77,8 @@ const fn take(size: u32) -> Call {
     Call::Take { size }
 }
 
-const fn hand_back(record: u32) -> Call {
-    Call::HandBack { record }
+const fn hand_back(record: u32, offset: u32) -> Call {
+    Call::HandBack { record, offset }
 }
 
 const fn set_up(size: u32, count: u32) -> Call {
@@ -86,13 +88,14 @@ const fn set_up(size: u32, count: u32) -> Call {
 /// Each refusal once: of the calls, and then of the reading, 13 to 15, after a
 /// call that stands.
 fn refusals() -> Vec<Vec<u8>> {
-    let calls: [&[Call]; 6] = [
+    let calls: [&[Call]; 7] = [
         &[set_up(100, 1)],
         &[set_up(100, 1_025)],
         &[set_up(100, 2), take(1)],
         &[set_up(100, 6), take(97)],
-        &[set_up(100, 6), hand_back(0)],
+        &[set_up(100, 6), hand_back(0, 0)],
         &[take(1)],
+        &[set_up(100, 6), take(20), hand_back(0, 1)],
     ];
     let records: [&[u8]; 3] = [
         &[0x06],
@@ -109,7 +112,7 @@ fn cuts() -> Vec<Vec<u8>> {
         set_up(100, 6),
         take(20),
         take(30),
-        hand_back(0),
+        hand_back(0, 0),
         Call::Reset,
         take(5),
     ]);
@@ -117,7 +120,7 @@ fn cuts() -> Vec<Vec<u8>> {
 }
 
 const KINDS: [u16; 9] = [0, 1, 2, 3, 4, 5, 256, 257, u16::MAX];
-const LENGTHS: [u16; 8] = [0, 1, 2, 3, 5, 6, 7, 10];
+const LENGTHS: [u16; 10] = [0, 1, 2, 3, 5, 6, 7, 9, 10, 11];
 
 /// Every kind with every length, its fields zeros: as many bytes as the length
 /// names, but at least the kind's; the same with a byte too few; and with a setup
@@ -145,6 +148,20 @@ fn head(kind: u16, length: u16) -> Vec<u8> {
     [length.to_le_bytes(), kind.to_le_bytes()].concat()
 }
 
+/// The span of 30 goes back, with an offset that is not 0 and cut after every
+/// byte; and as it did before it had an offset, at the end and with a call behind.
+fn hand_backs_in_part() -> Vec<Vec<u8>> {
+    let before = written(&TWO_OUT);
+    let record = written(&[hand_back(1, 20)]);
+    let mut journals: Vec<Vec<u8>> = (1..=record.len())
+        .map(|cut| [&before[..], &record[..cut]].concat())
+        .collect();
+    let old = [before, head(2, 6), 1u32.to_le_bytes().to_vec()].concat();
+    journals.push(old.clone());
+    journals.push([old, written(&[take(5)])].concat());
+    journals
+}
+
 /// The greatest length: of a known kind, of an unknown one, and a byte too few.
 fn greatest_lengths() -> [Case; 3] {
     [(1, 0), (5, 0), (1, 1)].map(|(kind, missing)| Case {
@@ -153,7 +170,10 @@ fn greatest_lengths() -> [Case; 3] {
     })
 }
 
-const OTHERS: [Call; 3] = [take(1), hand_back(0), Call::Reset];
+/// A store with two spans out: record 0 at 0, and record 1 at 20.
+const TWO_OUT: [Call; 3] = [set_up(100, 6), take(20), take(30)];
+
+const OTHERS: [Call; 3] = [take(1), hand_back(0, 0), Call::Reset];
 const REFUSED_SETUPS: [Call; 2] = [set_up(100, 1), set_up(100, 1_025)];
 
 /// Calls before a setup, after a refused one, and after one that was refused
@@ -164,14 +184,13 @@ fn stores() -> Vec<Vec<Call>> {
     for call in OTHERS {
         journals.push(vec![call, again, call]);
         for refused in REFUSED_SETUPS {
-            let out = [set_up(100, 6), take(20), take(30)];
             journals.push(vec![refused, call, again, call]);
-            journals.push([&out[..], &[refused, call, again, take(5), call]].concat());
+            journals.push([&TWO_OUT[..], &[refused, call, again, take(5), call]].concat());
         }
     }
     for refused in REFUSED_SETUPS {
         let out = [set_up(100, 6), take(20), refused];
-        journals.push([&out[..], &OTHERS, &[again, take(5), hand_back(0)]].concat());
+        journals.push([&out[..], &OTHERS, &[again, take(5), hand_back(0, 0)]].concat());
     }
     journals
 }
@@ -191,14 +210,14 @@ fn limits() -> Vec<Vec<Call>> {
         take(1),
         take(0),
         take(0),
-        hand_back(0),
+        hand_back(0, 0),
         take(0),
     ];
     let all = [
         set_up(u32::MAX, 6),
         take(1),
         take(0),
-        hand_back(0),
+        hand_back(0, 0),
         Call::Reset,
         take(2),
     ];
@@ -208,21 +227,21 @@ fn limits() -> Vec<Vec<Call>> {
         take(30),
         take(49),
         take(48),
-        hand_back(1),
-        hand_back(1),
+        hand_back(1, 20),
+        hand_back(1, 20),
         take(0),
         take(1),
-        hand_back(0),
-        hand_back(3),
-        hand_back(2),
+        hand_back(0, 0),
+        hand_back(3, 98),
+        hand_back(2, 50),
     ];
     let no_record = [
         set_up(100, 6),
         take(20),
-        hand_back(u32::MAX),
-        hand_back(6),
-        hand_back(1),
-        hand_back(0),
+        hand_back(u32::MAX, 0),
+        hand_back(6, 0),
+        hand_back(1, 20),
+        hand_back(0, 0),
     ];
     let no_class = [
         set_up(u32::MAX, 6),
@@ -233,6 +252,123 @@ fn limits() -> Vec<Vec<Call>> {
     [&nothing[..], &all, &run, &no_record, &no_class]
         .map(<[Call]>::to_vec)
         .to_vec()
+}
+
+/// Hand backs whose record and offset do not agree, or agree by chance.
+fn offsets() -> Vec<Vec<Call>> {
+    let two_out = |calls: &[Call]| [&TWO_OUT[..], calls].concat();
+    vec![
+        still_live(),
+        two_out(&NOT_LIVE),
+        two_out(&ANOTHER_SPAN),
+        two_out(&NEARLY),
+        two_out(&MATCHED_AGAIN),
+        two_out(&GRANTED_ELSEWHERE),
+        two_out(&STALE_AFTER_RESET),
+        two_out(&MATCHED_AFTER_SET_UP),
+        one_offset_twice(),
+        high_offset(),
+    ]
+}
+
+/// The refused one changes nothing: the span is out, and goes back.
+fn still_live() -> Vec<Call> {
+    vec![
+        set_up(100, 6),
+        take(96),
+        hand_back(0, 1),
+        take(20),
+        hand_back(0, 0),
+        take(20),
+        hand_back(0, u32::MAX),
+        hand_back(0, 0),
+        hand_back(0, 0),
+    ]
+}
+
+/// A free record, with its offset and another, a spare one, numbers that are no
+/// record, and the second span with its offset in the record's place.
+const NOT_LIVE: [Call; 6] = [
+    hand_back(2, 50),
+    hand_back(2, 51),
+    hand_back(3, 20),
+    hand_back(6, 20),
+    hand_back(u32::MAX, 20),
+    hand_back(20, 1),
+];
+
+/// Each with the other's offset, also when that has gone back.
+const ANOTHER_SPAN: [Call; 5] = [
+    hand_back(0, 20),
+    hand_back(1, 0),
+    hand_back(0, 0),
+    hand_back(1, 0),
+    hand_back(1, 20),
+];
+
+/// Its neighbours, its end, its record and its length; one byte that is wrong,
+/// each of the four, and the greatest of all.
+const NEARLY: [Call; 10] = [
+    hand_back(1, 19),
+    hand_back(1, 21),
+    hand_back(1, 50),
+    hand_back(1, 1),
+    hand_back(1, 30),
+    hand_back(1, 20 + (1 << 8)),
+    hand_back(1, 20 + (1 << 16)),
+    hand_back(1, 20 + (1 << 31)),
+    hand_back(1, u32::MAX),
+    hand_back(1, 20),
+];
+
+/// The pair of the first span stands for a later one that got the same, and is
+/// accepted once more.
+const MATCHED_AGAIN: [Call; 4] = [hand_back(0, 0), take(10), hand_back(0, 0), hand_back(0, 0)];
+
+/// The pair of the second span, whose record was granted at 0 since.
+const GRANTED_ELSEWHERE: [Call; 5] = [
+    hand_back(0, 0),
+    hand_back(1, 20),
+    take(5),
+    hand_back(1, 20),
+    hand_back(1, 0),
+];
+
+/// The same, from before a reset.
+const STALE_AFTER_RESET: [Call; 6] = [
+    Call::Reset,
+    hand_back(1, 20),
+    take(10),
+    take(30),
+    hand_back(1, 20),
+    hand_back(1, 10),
+];
+
+/// And from before a setup, after which a span of other length got the same.
+const MATCHED_AFTER_SET_UP: [Call; 4] = [set_up(50, 4), take(20), take(5), hand_back(1, 20)];
+
+/// Two spans of no length start at 0: the record tells them apart.
+fn one_offset_twice() -> Vec<Call> {
+    vec![
+        set_up(100, 6),
+        take(0),
+        take(0),
+        hand_back(1, 0),
+        hand_back(1, 0),
+        hand_back(0, 0),
+    ]
+}
+
+/// An offset that needs all 32 bits.
+fn high_offset() -> Vec<Call> {
+    vec![
+        set_up(u32::MAX, 6),
+        take(4_026_531_840),
+        take(1),
+        hand_back(1, 4_026_531_840 - (1 << 31)),
+        hand_back(1, 0),
+        hand_back(1, 4_026_531_840),
+    ]
 }
 
 #[cfg(test)]
@@ -277,7 +413,7 @@ mod tests {
     fn each_refusal_is_met() {
         let last = |journal: &Vec<u8>| printed(journal).pop().expect("a line");
         let met: Vec<String> = refusals().iter().map(last).collect();
-        assert_eq!(met, ["1", "2", "3", "4", "5", "6", "13", "14", "15"]);
+        assert_eq!(met, ["1", "2", "3", "4", "5", "6", "8", "13", "14", "15"]);
     }
 
     #[test]
@@ -300,5 +436,40 @@ mod tests {
         let last = &all[all.len() - 2];
         let answers = ["0", "0 0 0", "1", "6", "6", "6", "0", "0 0 0", "0"];
         assert_eq!(printed(&written(last)), answers);
+    }
+
+    #[test]
+    fn a_hand_back_in_part_is_cut_and_an_old_one_has_a_wrong_length() {
+        let met: Vec<String> = hand_backs_in_part()
+            .iter()
+            .map(|journal| printed(journal)[3..].concat())
+            .collect();
+        assert_eq!(met[..11], ["13"; 11]);
+        assert_eq!(met[11..], ["0", "15", "15"]);
+    }
+
+    #[test]
+    fn a_wrong_offset_is_refused_where_the_record_is_live() {
+        let two_out = "0, 0 0 0, 0 20 1, ";
+        let after_two_out = |calls: &Vec<Call>| {
+            let met = printed(&written(calls)).join(", ");
+            met.strip_prefix(two_out).unwrap_or(&met).to_owned()
+        };
+        let met: Vec<String> = offsets().iter().map(after_two_out).collect();
+        assert_eq!(
+            met,
+            [
+                "0, 0 0 0, 8, 4, 0, 0 0 0, 8, 0, 5",
+                "5, 5, 5, 5, 5, 5",
+                "8, 8, 0, 8, 0",
+                "8, 8, 8, 8, 8, 8, 8, 8, 8, 0",
+                "0, 0 0 0, 0, 5",
+                "0, 0, 0 0 1, 8, 0",
+                "0, 5, 0 0 0, 0 10 1, 8, 0",
+                "0, 0 0 0, 0 20 1, 0",
+                "0, 0 0 0, 0 0 1, 0, 5, 0",
+                "0, 0 0 0, 0 4026531840 1, 8, 8, 0",
+            ]
+        );
     }
 }

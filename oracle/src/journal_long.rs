@@ -65,6 +65,7 @@ impl Run {
         self.allocator.free(span);
         Call::HandBack {
             record: span.metadata.into(),
+            offset: span.offset,
         }
     }
 }

@@ -8,6 +8,7 @@ const CALLS: [Call; 4] = [
     Call::Take { size: 0x4433_2211 },
     Call::HandBack {
         record: 0x8877_6655,
+        offset: 0x4433_2211,
     },
     Call::SetUp {
         size: 0x4433_2211,

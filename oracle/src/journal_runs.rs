@@ -1,13 +1,13 @@
 //! The calls of `runs` that a journal can hold, as one journal, and the lines
-//! that a replay of it must print, which are the crate's answers in those rows.
-//! After the last call stand three bytes more, a record that is cut.
+//! that a replay of it must print, which are the crate's answers in those rows;
+//! but a return with a wrong offset, which the crate would do, is refused. After
+//! the last call stand three bytes more, a record that is cut.
 
 use std::io::{self, Write};
-use std::panic;
 
 use crate::journal::{Call, CUT};
 use crate::regions::Regions;
-use crate::replay::{Line, NOT_LIVE};
+use crate::replay::{Line, ELSEWHERE, NOT_LIVE};
 use crate::runs;
 
 /// The first bytes of a setup.
@@ -27,13 +27,10 @@ pub fn write_lines(out: &mut impl Write) -> io::Result<()> {
     writeln!(out, "{CUT}")
 }
 
-/// The calls, each with what the crate answered.
+/// The calls, each with its line.
 fn answered() -> io::Result<Vec<(Call, Line)>> {
     let mut rows = Vec::new();
     runs::write(&mut rows)?;
-    // The runs hush panics that they ask for; one that comes now is to be heard.
-    drop(panic::take_hook());
-
     let rows = String::from_utf8(rows).expect("rows are ASCII");
     // The first row is a setup's.
     let mut store = Store::new(0, 0);
@@ -76,16 +73,23 @@ impl Store {
                 let refused = Line::Refused(self.regions.refusal());
                 Some((Call::Take { size }, refused))
             }
-            ("f", &[record]) => {
+            ("f", &[offset, record]) => {
                 self.regions.hand_back(record);
-                Some((Call::HandBack { record }, Line::Done))
+                Some((Call::HandBack { record, offset }, Line::Done))
             }
-            ("b", &[record]) => Some((Call::HandBack { record }, Line::Refused(NOT_LIVE))),
+            ("b", &[offset, record]) => {
+                let refused = Line::Refused(NOT_LIVE);
+                Some((Call::HandBack { record, offset }, refused))
+            }
+            ("w", &[offset, record]) => {
+                let refused = Line::Refused(ELSEWHERE);
+                Some((Call::HandBack { record, offset }, refused))
+            }
             ("z", []) => {
                 *self = Self::new(self.size, self.count);
                 Some((Call::Reset, Line::Done))
             }
-            ("l" | "u" | "r" | "g" | "e", _) => None,
+            ("l" | "u" | "m" | "r" | "g" | "e", _) => None,
             _ => panic!("a row of no kind: {row}"),
         }
     }

@@ -4,21 +4,23 @@
 
 use std::io::{self, Write};
 
-use crate::runs::{self, Run};
-use crate::splitmix::SplitMix;
+use crate::runs::Run;
 
 const STORE_SIZES: [u32; 4] = [65_535, 4 << 20, 4_026_531_840, u32::MAX];
 const RECORD_COUNTS: [u32; 3] = [1_024, 16_384, 131_072];
 const PHASES: u32 = 4;
 
-/// Every size with every count, and `calls` takes, returns and size queries in all.
+/// In so many turns one has a call with a wrong offset after it.
+const TURNS_PER_WRONG: u32 = 64;
+
+/// Every size with every count, and `calls` takes, returns and size queries in
+/// all; those with a wrong offset come on top.
 pub fn write(out: &mut impl Write, calls: u32) -> io::Result<()> {
-    runs::hush_panics();
     let phase = calls / (STORE_SIZES.len() * RECORD_COUNTS.len()) as u32 / PHASES;
     for size in STORE_SIZES {
         for count in RECORD_COUNTS {
-            let random = SplitMix::new(u64::from(size) << 20 ^ u64::from(count));
-            write_run(Run::new(size, count, random, true), phase, out)?;
+            let seed = u64::from(size) << 20 ^ u64::from(count);
+            write_run(Run::new(size, count, seed, true), phase, out)?;
         }
     }
     Ok(())
@@ -40,6 +42,7 @@ fn write_run(mut run: Run, calls: u32, out: &mut impl Write) -> io::Result<()> {
                 _ => run.hand_back(out)?,
             }
             run.report(out)?;
+            run.wrong_now_and_then(TURNS_PER_WRONG, out)?;
         }
         run.full_report(out)?;
     }

@@ -3,16 +3,19 @@
 
 mod classes;
 mod damaged;
+mod history;
 mod journal;
 mod journal_cases;
 mod journal_long;
 mod journal_room;
 mod journal_runs;
 mod long_runs;
+mod panics;
 mod regions;
 mod replay;
 mod runs;
 mod sound;
+mod spans;
 mod speed;
 mod splitmix;
 mod spoil;

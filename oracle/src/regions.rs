@@ -1,6 +1,6 @@
 //! The plain ledger's line of regions and its pile, in document 01's words, kept
-//! beside the crate. It tells which records are live, and how many are spare,
-//! which the crate does not say. Which region a take gets the crate decides.
+//! beside the crate. It tells which records are live and where they start, and
+//! how many are spare, which the crate does not say. Which region a take gets the crate decides.
 
 struct Region {
     offset: u32,
@@ -42,8 +42,9 @@ impl Regions {
         spare
     }
 
-    pub fn is_live(&self, record: u32) -> bool {
-        self.find(record, true).is_some()
+    /// Where the region of this record starts, if it is live.
+    pub fn live_offset(&self, record: u32) -> Option<u32> {
+        self.find(record, true).map(|at| self.line[at].offset)
     }
 
     /// Why a take got nothing.
@@ -116,8 +117,9 @@ mod tests {
         regions.take(30, 20, 1);
         assert_eq!(regions.refusal(), NO_REGION);
         regions.take(48, 50, 2);
+        assert_eq!(regions.live_offset(1), Some(20));
         regions.hand_back(1);
-        assert!(!regions.is_live(1));
+        assert_eq!(regions.live_offset(1), None);
         regions.take(0, 98, 3);
         assert_eq!(regions.refusal(), NO_SPARE);
         regions.hand_back(0);

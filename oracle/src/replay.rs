@@ -1,6 +1,6 @@
-//! A replay of a journal on the crate, as request 1 of document 02 has it: a line
-//! for each call, and one for what ended the reading early. What the crate has no
-//! answer for is decided beforehand, and the crate is not asked.
+//! A replay of a journal on the crate, as requests 1 and 3 of document 02 have it:
+//! a line for each call, and one for what ended the reading early. What the crate
+//! has no answer for, or another, is decided beforehand, and it is not asked.
 
 use std::fmt;
 use std::fs;
@@ -22,6 +22,7 @@ const BAD_COUNT: u32 = 1;
 const TOO_SHORT: u32 = 2;
 pub const NOT_LIVE: u32 = 5;
 const NO_STORE: u32 = 6;
+pub const ELSEWHERE: u32 = 8;
 
 /// A line of a replay.
 #[derive(Clone, Copy, Debug, PartialEq, Eq)]
@@ -68,7 +69,7 @@ impl Replay {
             (Call::SetUp { size, count }, _) => self.set_up(size, count),
             (_, None) => Line::Refused(NO_STORE),
             (Call::Take { size }, Some(store)) => store.take(size),
-            (Call::HandBack { record }, Some(store)) => store.hand_back(record),
+            (Call::HandBack { record, offset }, Some(store)) => store.hand_back(record, offset),
             (Call::Reset, Some(store)) => store.reset(),
         }
     }
@@ -116,14 +117,21 @@ impl Store {
         Line::Granted { offset, record }
     }
 
-    /// The crate would panic at a record that is not live.
-    fn hand_back(&mut self, record: u32) -> Line {
-        if record >= self.count || !self.regions.is_live(record) {
+    /// The crate would panic at a record that is not live, and free one that
+    /// starts elsewhere.
+    fn hand_back(&mut self, record: u32, offset: u32) -> Line {
+        if record >= self.count {
             return Line::Refused(NOT_LIVE);
         }
-        self.allocator.free(handle(record));
-        self.regions.hand_back(record);
-        Line::Done
+        match self.regions.live_offset(record) {
+            None => Line::Refused(NOT_LIVE),
+            Some(own) if own != offset => Line::Refused(ELSEWHERE),
+            Some(_) => {
+                self.allocator.free(handle(offset, record));
+                self.regions.hand_back(record);
+                Line::Done
+            }
+        }
     }
 
     fn reset(&mut self) -> Line {
@@ -144,7 +152,8 @@ pub fn write(out: &mut impl Write) -> io::Result<()> {
 }
 
 /// The calls of a journal, made on the crate and on nothing beside it, and timed.
-/// It must be whole and none of its setups and hand backs refused.
+/// It must be whole and none of its setups and hand backs refused; that a hand
+/// back names another offset the crate does not see.
 pub fn write_bare(out: &mut impl Write, path: &str) -> io::Result<()> {
     let journal = fs::read(path)?;
     let calls: Vec<Call> = journal::read(&journal)
@@ -184,7 +193,9 @@ fn sum_of_answers(calls: &[Call]) -> u32 {
                 Some(span) => sum = mix(mix(sum, span.offset), span.metadata.into()),
                 None => sum = mix(sum, REFUSED),
             },
-            Call::HandBack { record } => store.as_mut().expect(BEFORE).free(handle(record)),
+            Call::HandBack { record, offset } => {
+                store.as_mut().expect(BEFORE).free(handle(offset, record));
+            }
             Call::SetUp { size, count } => {
                 assert_eq!(refused_count(count), None, "the setup is refused");
                 store = Some(Allocator::with_max_allocs(size, count));
@@ -201,7 +212,7 @@ fn sum_of_fields(journal: &[u8]) -> Result<(usize, u32), u32> {
     for call in journal::read(journal) {
         sum = match call? {
             Call::Take { size } => mix(sum, size),
-            Call::HandBack { record } => mix(sum, record),
+            Call::HandBack { record, offset } => mix(mix(sum, record), offset),
             Call::SetUp { size, count } => mix(mix(sum, size), count),
             Call::Reset => mix(sum, 0),
         };
@@ -219,6 +230,41 @@ mod tests {
     fn the_example_prints_the_request_s_lines() {
         let printed: Vec<String> = lines(&EXAMPLE).map(|line| line.to_string()).collect();
         assert_eq!(printed, ["0", "0 0 0", "0"]);
+    }
+
+    /// The lines of hand backs with these records and offsets, after takes of 20
+    /// and 30 from a store of 100 with 6 records.
+    fn handed_back<const N: usize>(pairs: [(u32, u32); N]) -> Vec<Line> {
+        let mut calls = vec![
+            Call::SetUp {
+                size: 100,
+                count: 6,
+            },
+            Call::Take { size: 20 },
+            Call::Take { size: 30 },
+        ];
+        calls.extend(pairs.map(|(record, offset)| Call::HandBack { record, offset }));
+        lines(&journal::written(&calls)).skip(3).collect()
+    }
+
+    #[test]
+    fn a_record_that_is_not_live_is_5_whatever_the_offset() {
+        for offset in [0, 20, 50, 51, u32::MAX] {
+            // free, spare, the count, and far beyond it
+            for record in [2, 3, 6, u32::MAX] {
+                assert_eq!(handed_back([(record, offset)]), [Line::Refused(5)]);
+            }
+        }
+        let again = handed_back([(1, 20), (1, 20), (1, 0)]);
+        assert_eq!(again, [Line::Done, Line::Refused(5), Line::Refused(5)]);
+    }
+
+    #[test]
+    fn a_live_record_that_starts_elsewhere_is_8_and_stays_live() {
+        for offset in [0, 19, 21, 30, 50, 20 | 1 << 16, 20 | 1 << 31, u32::MAX] {
+            let met = handed_back([(1, offset), (1, offset), (1, 20)]);
+            assert_eq!(met, [Line::Refused(8), Line::Refused(8), Line::Done]);
+        }
     }
 
     #[test]
@@ -243,7 +289,10 @@ mod tests {
             Call::SetUp { size: 17, count: 4 },
             Call::Take { size: 17 },
             Call::Take { size: 5 },
-            Call::HandBack { record: 0 },
+            Call::HandBack {
+                record: 0,
+                offset: 0,
+            },
             Call::Reset,
             Call::Take { size: 0 },
             Call::Take { size: 16 },

@@ -16,25 +16,25 @@ row letter c d = record { letter = letter; c = c; d = d }
 abbrev pub noRow : Said
 noRow = row 0 0 0
 
--- n SIZE COUNT, z, f RECORD
+-- n SIZE COUNT, z, f OFFSET RECORD
 abbrev pub doneSaid : Call → Said
 doneSaid (call.SetUp size count) = row 110 size count
 doneSaid call.Reset = row 122 0 0
 doneSaid (call.Take size) = noRow
-doneSaid (call.HandBack number) = row 102 0 number
-doneSaid (call.SizeOf number) = noRow
+doneSaid (call.HandBack offset number) = row 102 offset number
+doneSaid (call.SizeOf offset number) = noRow
 doneSaid call.Report = noRow
 doneSaid (call.ClassOf class) = noRow
 doneSaid call.ClassesHeld = noRow
 doneSaid call.Nothing = noRow
 
--- l RECORD LENGTH
+-- l OFFSET RECORD LENGTH
 abbrev pub lengthSaid : Call → ℕ → Said
 lengthSaid (call.SetUp size count) length = noRow
 lengthSaid call.Reset length = noRow
 lengthSaid (call.Take size) length = noRow
-lengthSaid (call.HandBack number) length = noRow
-lengthSaid (call.SizeOf number) length = row 108 number length
+lengthSaid (call.HandBack offset number) length = noRow
+lengthSaid (call.SizeOf offset number) length = row 108 number length
 lengthSaid call.Report length = noRow
 lengthSaid (call.ClassOf class) length = noRow
 lengthSaid call.ClassesHeld length = noRow
@@ -44,17 +44,17 @@ lengthSaid call.Nothing length = noRow
 unfoldable pub noGrantSaid : (size refusal : ℕ) → Said
 noGrantSaid size refusal = cond (eqb refusal 3) (row 120 0 size) (cond (eqb refusal 4) (row 120 0 size) noRow)
 
--- a row that says that the record is not live: refused with 5
-unfoldable pub notLiveSaid : Said → (refusal : ℕ) → Said
-notLiveSaid said refusal = cond (eqb refusal 5) said noRow
+-- a row of a span that is none of the live ones: refused with 5, the record is not live; with 8, it is, and starts elsewhere
+unfoldable pub noSpanSaid : (dead elsewhere c d refusal : ℕ) → Said
+noSpanSaid dead elsewhere c d refusal = cond (eqb refusal 5) (row dead c d) (cond (eqb refusal 8) (row elsewhere c d) noRow)
 
--- x SIZE, b RECORD, u RECORD LENGTH
+-- x SIZE; b OFFSET RECORD and w the same; u OFFSET RECORD LENGTH and m the same
 abbrev pub refusedSaid : Call → ℕ → Said
 refusedSaid (call.SetUp size count) refusal = noRow
 refusedSaid call.Reset refusal = noRow
 refusedSaid (call.Take size) refusal = noGrantSaid size refusal
-refusedSaid (call.HandBack number) refusal = notLiveSaid (row 98 0 number) refusal
-refusedSaid (call.SizeOf number) refusal = notLiveSaid (row 117 number 0) refusal
+refusedSaid (call.HandBack offset number) refusal = noSpanSaid 98 119 offset number refusal
+refusedSaid (call.SizeOf offset number) refusal = noSpanSaid 117 109 number 0 refusal
 refusedSaid call.Report refusal = noRow
 refusedSaid (call.ClassOf class) refusal = noRow
 refusedSaid call.ClassesHeld refusal = noRow

@@ -2,7 +2,7 @@
 // answered, as the port answered it. oracle/README.md has the letters. `trials` makes the calls; that answers are put rightly is proved here.
 ghost use mathlib.Core.Path.{_≡_};
 ghost use Rattle.answer_rows.specs.Said.{row, noRow};
-ghost use Rattle.answer_rows.specs.Said.{doneSaid, lengthSaid, refusedSaid, noGrantSaid, notLiveSaid, saidOf};
+ghost use Rattle.answer_rows.specs.Said.{doneSaid, lengthSaid, refusedSaid, noGrantSaid, noSpanSaid, saidOf};
 use call_values::answer::Answer;
 use call_values::call::Call;
 use call_verdicts::Said;
@@ -24,7 +24,7 @@ fn no_row() -> Said
     row(0, 0, 0)
 }
 
-// `n SIZE COUNT`, `z`, `f RECORD`.
+// `n SIZE COUNT`, `z`, `f OFFSET RECORD`.
 fn of_done(call: Call) -> Said
     ensures { λ r. ⌜ r ≡ doneSaid call ⌝ }
 {
@@ -32,8 +32,8 @@ fn of_done(call: Call) -> Said
         Call::SetUp(size, count) => row(b'n', size, count),
         Call::Reset => row(b'z', 0, 0),
         Call::Take(_) => no_row(),
-        Call::HandBack(record) => row(b'f', 0, record),
-        Call::SizeOf(_) => no_row(),
+        Call::HandBack(offset, record) => row(b'f', offset, record),
+        Call::SizeOf(_, _) => no_row(),
         Call::Report => no_row(),
         Call::ClassOf(_) => no_row(),
         Call::ClassesHeld => no_row(),
@@ -41,7 +41,7 @@ fn of_done(call: Call) -> Said
     }
 }
 
-// `l RECORD LENGTH`.
+// `l OFFSET RECORD LENGTH`, of which the last two numbers are compared; the offset is as it was asked.
 fn of_length(call: Call, length: u32) -> Said
     ensures { λ r. ⌜ r ≡ lengthSaid call length ⌝ }
 {
@@ -49,8 +49,8 @@ fn of_length(call: Call, length: u32) -> Said
         Call::SetUp(_, _) => no_row(),
         Call::Reset => no_row(),
         Call::Take(_) => no_row(),
-        Call::HandBack(_) => no_row(),
-        Call::SizeOf(record) => row(b'l', record, length),
+        Call::HandBack(_, _) => no_row(),
+        Call::SizeOf(_, record) => row(b'l', record, length),
         Call::Report => no_row(),
         Call::ClassOf(_) => no_row(),
         Call::ClassesHeld => no_row(),
@@ -83,16 +83,21 @@ fn of_no_grant(size: u32, number: u32) -> Said
     no_row()
 }
 
-// `b RECORD`, `u RECORD LENGTH`: the record is not live.
-fn of_not_live(said: Said, number: u32) -> Said
-    ensures { λ r. ⌜ r ≡ notLiveSaid said number ⌝ }
+// A span that is none of the live ones, with a letter for each way: its record is not live; or it is, and starts elsewhere. The row's last two numbers
+// are c and d.
+fn of_no_span(not_live: u8, elsewhere: u8, c: u32, d: u32, number: u32) -> Said
+    ensures { λ r. ⌜ r ≡ noSpanSaid «not_live» elsewhere c d number ⌝ }
 {
     if number == 5 {
-        return said;
+        return row(not_live, c, d);
+    }
+    if number == 8 {
+        return row(elsewhere, c, d);
     }
     no_row()
 }
 
+// `x SIZE`; `b OFFSET RECORD` and `w OFFSET RECORD`; `u OFFSET RECORD LENGTH` and `m OFFSET RECORD LENGTH`, whose length the port does not give.
 fn of_refused(call: Call, number: u32) -> Said
     ensures { λ r. ⌜ r ≡ refusedSaid call number ⌝ }
 {
@@ -100,8 +105,8 @@ fn of_refused(call: Call, number: u32) -> Said
         Call::SetUp(_, _) => no_row(),
         Call::Reset => no_row(),
         Call::Take(size) => of_no_grant(size, number),
-        Call::HandBack(record) => of_not_live(row(b'b', 0, record), number),
-        Call::SizeOf(record) => of_not_live(row(b'u', record, 0), number),
+        Call::HandBack(offset, record) => of_no_span(b'b', b'w', offset, record, number),
+        Call::SizeOf(_, record) => of_no_span(b'u', b'm', record, 0, number),
         Call::Report => no_row(),
         Call::ClassOf(_) => no_row(),
         Call::ClassesHeld => no_row(),

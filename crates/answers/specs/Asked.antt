@@ -6,6 +6,6 @@ use Rattle.answers.specs.declared.Allocation.{Allocation}
 abbrev pub requestOf : Size → Request
 requestOf size = record { size = size .0 }
 
--- a span is named by its record; where it starts is not looked at, as in the Rust
+-- a span is named by where it starts and by its record
 abbrev pub tokenOf : Allocation → Token
-tokenOf span = record { number = span .metadata .0 }
+tokenOf span = record { offset = span .offset; number = span .metadata .0 }

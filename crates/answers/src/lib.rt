@@ -11,7 +11,7 @@ use small_float::Size;
 // A record number that was given out. A handle, a class and a size are three types, so that one cannot stand for another.
 pub struct Handle(pub u32);
 
-// A granted span: where it starts, and the handle to give back.
+// A granted span: where it starts, and its handle. It is handed back whole, and both must agree.
 pub struct Allocation {
     pub offset: u32,
     pub metadata: Handle,
@@ -31,10 +31,12 @@ pub enum Refusal {
     NotLive,
     // 6: the head's count is out of range, or the tables are not sound
     Unsound,
+    // 8: hand back or size query of a record that is live but starts at another offset than the span's
+    StartsElsewhere,
 }
 
 impl Refusal {
-    // Document 01's number.
+    // The documents' number.
     pub fn number(self) -> u32
         ensures { λ n. ⌜ n ≡ numberOf self ⌝ }
     {
@@ -46,6 +48,7 @@ impl Refusal {
             Refusal::NoRegion => 4,
             Refusal::NotLive => 5,
             Refusal::Unsound => 6,
+            Refusal::StartsElsewhere => 8,
         }
     }
 }

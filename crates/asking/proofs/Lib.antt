@@ -1,2 +1,3 @@
 -- Asked: no answer but the model's is promised.
 pub mod Asked
+pub mod Lengths

@@ -35,6 +35,9 @@ pub fn allocation_size(
         Gate::Shut(why) => SizeAnswer::Refused(why),
         Gate::Open => {
             if records::live::is_live(nodes, t.max_allocs, handle) {
+                if nodes::word(nodes, handle, nodes::DATA_OFFSET) != span.offset {
+                    return SizeAnswer::Refused(Refusal::StartsElsewhere);
+                }
                 return SizeAnswer::Length(Size(nodes::word(nodes, handle, nodes::DATA_SIZE)));
             }
             SizeAnswer::Refused(Refusal::NotLive)

@@ -17,12 +17,12 @@ pub struct Called {
     pub head: Head,
 }
 
-pub fn size_of(head: Head, nodes: &[u32], free_nodes: &[u32], number: u32) -> Called
+pub fn size_of(head: Head, nodes: &[u32], free_nodes: &[u32], offset: u32, number: u32) -> Called
     ensures { λ r. ⌜ _≡_ {A = Told × Words} (r .answer, headWords (r .head) (now (nodes .entry)) (now («free_nodes» .entry)))
-        (made byValue (SizeOf number) (headWords head (now (nodes .entry)) (now («free_nodes» .entry)))) ⌝ }
+        (made byValue (SizeOf offset number) (headWords head (now (nodes .entry)) (now («free_nodes» .entry)))) ⌝ }
 {
     let span = Allocation {
-        offset: 0,
+        offset,
         metadata: Handle(number),
     };
     let given = head.allocation_size(span, nodes, free_nodes);

@@ -134,7 +134,8 @@ fn plan_merged(t: Totals, r: Handle, before: Side, after: Side, own: Size) -> Pl
     Planned::Merge(on_side(before), on_side(after), m)
 }
 
-// What a hand-back of this span finds: refused with 5 if its record is not live. That the table holds every record the gate has tested.
+// What a hand-back of this span finds: refused with 5 if its record is not live, then with 8 if that starts elsewhere. That the table holds every
+// record the gate has tested.
 pub fn plan(t: Totals, span: Allocation, nodes: &[u32]) -> Planned
     requires { ⌜ HasRoom (t .«max_allocs») (now nodes) ⌝ }
     ensures { λ g. ⌜ ((heads leaves pile : List ℕ) → planOf g ≡ planBack (wordsOf t heads leaves (now (nodes .entry)) pile) (tokenOf span)) ⌝ }
@@ -143,9 +144,12 @@ pub fn plan(t: Totals, span: Allocation, nodes: &[u32]) -> Planned
     let max_allocs = t.max_allocs;
     let r = span.metadata;
     if records::live::is_live(nodes, max_allocs, r) {
+        let offset = nodes::word(nodes, r, nodes::DATA_OFFSET);
+        if offset != span.offset {
+            return Planned::Stop(Refusal::StartsElsewhere);
+        }
         let prev = Handle(nodes::word(nodes, r, nodes::NEIGHBOR_PREV));
         let next = Handle(nodes::word(nodes, r, nodes::NEIGHBOR_NEXT));
-        let offset = nodes::word(nodes, r, nodes::DATA_OFFSET);
         let before = beside(nodes, max_allocs, prev, nodes::NEIGHBOR_PREV, offset);
         let after = beside(nodes, max_allocs, next, nodes::NEIGHBOR_NEXT, offset);
         let own = Size(nodes::word(nodes, r, nodes::DATA_SIZE));

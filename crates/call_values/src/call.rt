@@ -5,10 +5,10 @@ pub enum Call {
     Reset,
     // a size
     Take(u32),
-    // a record
-    HandBack(u32),
-    // a record
-    SizeOf(u32),
+    // where a span starts, and its record
+    HandBack(u32, u32),
+    // where a span starts, and its record
+    SizeOf(u32, u32),
     Report,
     // a full report, of which one class is asked for
     ClassOf(u32),

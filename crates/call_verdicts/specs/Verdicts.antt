@@ -6,12 +6,13 @@ use Rattle.call_verdicts.specs.declared.Said.{Said}
 use Rattle.oracle_lists.specs.declared.tally.Verdict.{Verdict}
 use Rattle.oracle_lists.specs.declared.tally.Verdict.the-variants.{Agrees, Listed, Differs}
 
--- rows of one letter: u, whose last number means nothing in the Rust, and b are the listed differences
+-- rows of one letter: u and m, whose last number is a length that the Rust alone gives, and b and w are the listed differences
 unfoldable pub sameNumbers : Reader → Said → Verdict
 sameNumbers r s =
     cond (eqb (r .c) (s .c))
     (cond (eqb (r .letter) 117) Listed
-    (cond (eqb (r .d) (s .d)) (cond (eqb (r .letter) 98) Listed Agrees) Differs))
+    (cond (eqb (r .letter) 109) Listed
+    (cond (eqb (r .d) (s .d)) (cond (eqb (r .letter) 98) Listed (cond (eqb (r .letter) 119) Listed Agrees)) Differs)))
     Differs
 
 -- one form's answer

@@ -12,7 +12,7 @@ pub struct Said {
     pub d: u32,
 }
 
-// The two last numbers are the same; the last one is not compared where the Rust's means nothing.
+// The two last numbers are the same; the last one is not compared where it is a length that the Rust gave and the port does not.
 fn judge_numbers(row: Reader, said: Said) -> Verdict
     ensures { λ v. ⌜ v ≡ sameNumbers row said ⌝ }
 {
@@ -22,17 +22,24 @@ fn judge_numbers(row: Reader, said: Said) -> Verdict
     if row.letter == b'u' {
         return Verdict::Listed;
     }
+    if row.letter == b'm' {
+        return Verdict::Listed;
+    }
     if row.d != said.d {
         return Verdict::Differs;
     }
     if row.letter == b'b' {
         return Verdict::Listed;
     }
+    if row.letter == b'w' {
+        return Verdict::Listed;
+    }
     Verdict::Agrees
 }
 
-// One form's answer. `b RECORD` and `u RECORD LENGTH` are the listed differences: the record is not live, and where the port refuses the
-// Rust panics, or gives a length that means nothing.
+// One form's answer. The listed differences are rows of spans that the port refuses. `b OFFSET RECORD` and `u OFFSET RECORD LENGTH`: the record is not
+// live, and the Rust panics, or gives a length that means nothing. `w OFFSET RECORD` and `m OFFSET RECORD LENGTH`: it is live but starts elsewhere, and the
+// Rust goes by the record alone.
 pub fn judge(row: Reader, said: Said) -> Verdict
     ensures { λ v. ⌜ v ≡ callVerdict row said ⌝ }
 {

@@ -14,7 +14,7 @@ one a b v u p q =
 
 one-made : (E : Edition) (c : Call) (w v u : Words) (a b : Answer) → Makes E c w v a → Makes E c w u b → (a ≡ b) × (v ≡ u)
 one-made E (Take size) w v u a b p q = one a b v u (p .promised .exact) (q .promised .exact)
-one-made E (HandBack handle) w v u a b p q = one a b v u (p .promised .exact) (q .promised .exact)
+one-made E (HandBack span) w v u a b p q = one a b v u (p .promised .exact) (q .promised .exact)
 one-made E (SetUp size count) w v u a b p q = one a b v u (p .promised .exact) (q .promised .exact)
 one-made E Reset w v u a b p q = one a b v u (p .promised .exact) (q .promised .exact)
 

@@ -15,7 +15,7 @@ lentIn w = lentOf (w .binIndices) (w .usedBins) (w .nodes) (w .pile)
 -- what the call that is named promises: it finds the words w, answers a and leaves the words v
 abbrev pub PromiseOf : Edition → Call → (w v : Words) → Answer → Type 0
 PromiseOf E (Take size) w v a = Promise E (ledger.takes (size .0)) w v a
-PromiseOf E (HandBack handle) w v a = Promise E (ledger.hands-back 0 (handle .0)) w v a
+PromiseOf E (HandBack span) w v a = Promise E (ledger.hands-back (span .offset) (span .metadata .0)) w v a
 PromiseOf E (SetUp size count) w v a = SetupPromise E (size .0) count (lentIn w) v a
 PromiseOf E Reset w v a = Promise E ledger.Reset w v a
 

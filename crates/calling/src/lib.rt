@@ -5,7 +5,6 @@ ghost use Rattle.calls.specs.Values.{says};
 ghost use Rattle.calls.specs.declared.Call.the-variants as call;
 ghost use Rattle.calling.specs.Makes.{Makes};
 use answers::Allocation;
-use answers::Handle;
 use calls::Answer;
 use calls::Call;
 use records::totals::Totals;
@@ -39,24 +38,19 @@ fn take(
     }
 }
 
-// A span is named by its record alone; where it starts no call looks at.
 fn hand_back(
-    handle: Handle,
+    span: Allocation,
     t: Totals,
     bin_indices: &mut [u32; 256],
     used_bins: &mut [u8; 32],
     nodes: &mut [u32],
     free_nodes: &mut [u32],
 ) -> Called
-    ensures { λ r. ⌜ Makes edition32 (call.HandBack handle)
+    ensures { λ r. ⌜ Makes edition32 (call.HandBack span)
         (wordsOf t (now («bin_indices» .entry)) (now («used_bins» .entry)) (now (nodes .entry)) (now («free_nodes» .entry)))
         (wordsOf (r .totals) (now («bin_indices» .exit)) (now («used_bins» .exit)) (now (nodes .exit)) (now («free_nodes» .exit)))
         (says (r .answer)) ⌝ }
 {
-    let span = Allocation {
-        offset: 0,
-        metadata: handle,
-    };
     let returned = giving::free(t, span, bin_indices, used_bins, nodes, free_nodes);
     let given = returned.answer;
     let totals = returned.totals;
@@ -126,9 +120,7 @@ pub fn make(
 {
     match call {
         Call::Take(size) => take(size, t, bin_indices, used_bins, nodes, free_nodes),
-        Call::HandBack(handle) => {
-            hand_back(handle, t, bin_indices, used_bins, nodes, free_nodes)
-        }
+        Call::HandBack(span) => hand_back(span, t, bin_indices, used_bins, nodes, free_nodes),
         Call::SetUp(size, count) => {
             set_up(size, count, bin_indices, used_bins, nodes, free_nodes)
         }

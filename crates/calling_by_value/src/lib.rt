@@ -56,14 +56,20 @@ fn take(head: Head, nodes: &mut [u32], free_nodes: &[u32], size: u32) -> Called
     }
 }
 
-// A row names a span by its record alone; where it starts no call looks at.
-fn hand_back(head: Head, nodes: &mut [u32], free_nodes: &mut [u32], number: u32) -> Called
+// A row names a span by where it starts and by its record, and the call is handed both.
+fn hand_back(
+    head: Head,
+    nodes: &mut [u32],
+    free_nodes: &mut [u32],
+    offset: u32,
+    number: u32,
+) -> Called
     ensures { λ r. ⌜ _≡_ {A = Told × Words}
         (r .answer, headWords (r .head) (now (nodes .exit)) (now («free_nodes» .exit)))
-        (made byValue (HandBack number) (headWords head (now (nodes .entry)) (now («free_nodes» .entry)))) ⌝ }
+        (made byValue (HandBack offset number) (headWords head (now (nodes .entry)) (now («free_nodes» .entry)))) ⌝ }
 {
     let span = Allocation {
-        offset: 0,
+        offset,
         metadata: Handle(number),
     };
     let freed = head.free(span, nodes, free_nodes);
@@ -84,8 +90,14 @@ pub fn make(call: Call, head: Head, nodes: &mut [u32], free_nodes: &mut [u32]) -
         Call::SetUp(size, count) => set_up(size, count, nodes, free_nodes),
         Call::Reset => reset(head, nodes, free_nodes),
         Call::Take(size) => take(head, nodes, free_nodes, size),
-        Call::HandBack(number) => hand_back(head, nodes, free_nodes, number),
-        Call::SizeOf(number) => asking_by_value::size_of(head, nodes, free_nodes, number),
+        Call::HandBack(offset, number) => hand_back(head, nodes, free_nodes, offset, number),
+        Call::SizeOf(offset, number) => asking_by_value::size_of(
+            head,
+            nodes,
+            free_nodes,
+            offset,
+            number,
+        ),
         Call::Report => asking_by_value::report(head, nodes, free_nodes),
         Call::ClassOf(class) => asking_by_value::class_of(head, nodes, free_nodes, class),
         Call::ClassesHeld => asking_by_value::classes_held(head, nodes, free_nodes),

@@ -14,6 +14,6 @@ use Rattle.calling_in_place.specs.Changed.{changed}
 pub change-told : (c : Call) {w v : Words} {a : ledger.Answer} {b : Answer} → b ≡ told a → Makes edition32 c w v a
     → _≡_ {A = Answer × Words} (b, v) (changed c w)
 change-told (Take size) t m = told-so t (m .promised .exact)
-change-told (HandBack handle) t m = told-so t (m .promised .exact)
+change-told (HandBack span) t m = told-so t (m .promised .exact)
 change-told (SetUp size count) t m = told-so t (m .promised .exact)
 change-told Reset t m = told-so t (m .promised .exact)

@@ -11,6 +11,6 @@ use Rattle.telling.specs.Made.{toldBy}
 
 abbrev pub changed : Call → Words → Answer × Words
 changed (Take size) w = toldBy (answerWords edition32 (ledger.takes (size .0)) w)
-changed (HandBack handle) w = toldBy (answerWords edition32 (ledger.hands-back 0 (handle .0)) w)
+changed (HandBack span) w = toldBy (answerWords edition32 (ledger.hands-back (span .offset) (span .metadata .0)) w)
 changed (SetUp size count) w = toldBy (setupWords edition32 (size .0) count (lentIn w))
 changed Reset w = toldBy (answerWords edition32 ledger.Reset w)

@@ -48,15 +48,16 @@ fn size_of(
     used_bins: &[u8; 32],
     nodes: &[u32],
     free_nodes: &[u32],
+    offset: u32,
     number: u32,
 ) -> Called
     ensures { λ r. ⌜ _≡_ {A = Told × Words}
         (r .answer, wordsOf (r .totals) (now («bin_indices» .entry)) (now («used_bins» .entry)) (now (nodes .entry)) (now («free_nodes» .entry)))
-        (made inPlace (SizeOf number)
+        (made inPlace (SizeOf offset number)
         (wordsOf t (now («bin_indices» .entry)) (now («used_bins» .entry)) (now (nodes .entry)) (now («free_nodes» .entry)))) ⌝ }
 {
     let span = Allocation {
-        offset: 0,
+        offset,
         metadata: Handle(number),
     };
     let given = asking::allocation_size(t, span, bin_indices, used_bins, nodes, free_nodes);
@@ -162,15 +163,20 @@ pub fn make(
             nodes,
             free_nodes,
         ),
-        Call::HandBack(number) => change(
-            calls::Call::HandBack(Handle(number)),
+        Call::HandBack(offset, number) => change(
+            calls::Call::HandBack(Allocation {
+                offset,
+                metadata: Handle(number),
+            }),
             t,
             bin_indices,
             used_bins,
             nodes,
             free_nodes,
         ),
-        Call::SizeOf(number) => size_of(t, bin_indices, used_bins, nodes, free_nodes, number),
+        Call::SizeOf(offset, number) => {
+            size_of(t, bin_indices, used_bins, nodes, free_nodes, offset, number)
+        }
         Call::Report => report(t, bin_indices, used_bins, nodes, free_nodes),
         Call::ClassOf(class) => class_of(t, bin_indices, used_bins, nodes, free_nodes, class),
         Call::ClassesHeld => classes_held(t, bin_indices, used_bins, nodes, free_nodes),

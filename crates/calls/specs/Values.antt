@@ -9,10 +9,10 @@ use Rattle.calls.specs.declared.Call.the-variants.{Take, HandBack, SetUp
 use Rattle.calls.specs.declared.Answer.{Answer}
 use Rattle.calls.specs.declared.Answer.the-variants as answer
 
--- the numbers that a call holds, in their order
+-- the numbers that a call holds, in their order; of a span its record, then where it starts
 abbrev pub fieldsOf : Call → List ℕ
 fieldsOf (Take size) = size .0 ∷ []
-fieldsOf (HandBack handle) = handle .0 ∷ []
+fieldsOf (HandBack span) = span .metadata .0 ∷ span .offset ∷ []
 fieldsOf (SetUp size count) = size .0 ∷ count ∷ []
 fieldsOf Reset = []
 

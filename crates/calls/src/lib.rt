@@ -6,7 +6,6 @@ ghost use Rattle.answers.specs.Answers.{startSays, takeSays, backSays};
 ghost use Rattle.calls.specs.Values.{says};
 use answers::Allocation;
 use answers::BackAnswer;
-use answers::Handle;
 use answers::Refusal;
 use answers::StartAnswer;
 use answers::TakeAnswer;
@@ -15,8 +14,8 @@ use small_float::Size;
 pub enum Call {
     // a size
     Take(Size),
-    // the record of a span
-    HandBack(Handle),
+    // the span: its record, and where it starts
+    HandBack(Allocation),
     // a store's size, and its count of records
     SetUp(Size, u32),
     Reset,

@@ -6,16 +6,16 @@ use lib.ListN.{getD, set, replicate}
 use Rattle.oracle_lists.specs.Tally.{oneMore}
 use Rattle.counting.specs.declared.Tally.{Tally}
 
--- eight lines of nine columns, one after the other
+-- eight lines of eleven columns, one after the other
 abbrev pub cell : (line column : ℕ) → ℕ
-cell line column = line % 8 * 9 + column % 9
+cell line column = line % 8 * 11 + column % 11
 
 -- a counter, raised or left
 abbrev pub oneMoreIf : Bool → ℕ → ℕ
 oneMoreIf raised n = cond raised (oneMore n) n
 
 abbrev pub nothingCounted : Tally
-nothingCounted = record { counts = replicate 72 0; changed = 0; outside = 0; differ = 0 }
+nothingCounted = record { counts = replicate 88 0; changed = 0; outside = 0; differ = 0 }
 
 -- a call of one form, by where it is counted, whether it changed a word and whether its grant lies outside
 abbrev pub counted : Tally → (line column : ℕ) → (changed outside : Bool) → Tally
@@ -45,8 +45,8 @@ pub record CountClaims : Type 0 where
   pub none-differ : (t : Tally) (differ : Bool) → compared t differ .differ ≡ 0 → (differ ≡ false) × (t .differ ≡ 0)
   pub cells-apart : (line column line′ column′ : ℕ)
       → line < 8
-      → column < 9
+      → column < 11
       → line′ < 8
-      → column′ < 9
+      → column′ < 11
       → cell line column ≡ cell line′ column′
       → (line ≡ line′) × (column ≡ column′)

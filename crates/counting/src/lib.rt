@@ -5,11 +5,11 @@ ghost use lib.ListN.{getD};
 ghost use Rattle.counting.specs.Counted.{cell, oneMoreIf, nothingCounted, counted, compared};
 use oracle_lists::tally::one_more;
 
-const COLUMNS: u32 = 9;
+const COLUMNS: u32 = 11;
 
 // Eight lines one after the other, each with its columns. A counter that has reached 2^64 - 1 stays there.
 pub struct Tally {
-    pub counts: [u64; 72],
+    pub counts: [u64; 88],
     // calls that had to leave every word and did not
     pub changed: u64,
     pub outside: u64,
@@ -26,7 +26,7 @@ fn one_more_if(raised: bool, n: u64) -> u64
 }
 
 fn place(line: u32, column: u32) -> usize
-    ensures { λ r. ⌜ (r ≡ cell line column) × (r < 72) ⌝ }
+    ensures { λ r. ⌜ (r ≡ cell line column) × (r < 88) ⌝ }
 {
     (line % 8 * COLUMNS + column % COLUMNS) as usize
 }
@@ -36,7 +36,7 @@ impl Tally {
         ensures { λ r. ⌜ r ≡ nothingCounted ⌝ }
     {
         Tally {
-            counts: [0u64; 72],
+            counts: [0u64; 88],
             changed: 0,
             outside: 0,
             differ: 0,

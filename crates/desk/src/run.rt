@@ -1,4 +1,5 @@
-// Document 01's run to follow: each call with its answer, the report after it and a strip of the store.
+// Document 01's run to follow, and one call that is not in it, a hand-back with another span's offset: each call with its answer, the report after it
+// and a strip of the store.
 use crate::strip;
 use crate::text;
 use answers::Allocation;
@@ -51,9 +52,9 @@ fn print_state(desk: Desk, nodes: &[u32], free_nodes: &[u32]) {
 
 fn set_up(nodes: &mut [u32], free_nodes: &mut [u32]) -> Desk {
     text::print(
-        b"call           answer              report after   store (record=length is live, record.length is free)\n",
+        b"call                answer              report after   store (record=length is live, record.length is free)\n",
     );
-    text::print(b"set up 100, 6  ");
+    text::print(b"set up 100, 6       ");
     let started = Head::with_max_allocs(Size(SIZE), COUNT, nodes, free_nodes);
     let answer = started.answer;
     match answer {
@@ -86,7 +87,7 @@ fn print_taken(answer: TakeAnswer, record: u32) -> u32 {
 
 fn take(desk: Desk, size: u32, nodes: &mut [u32], free_nodes: &mut [u32]) -> Desk {
     text::print(b"take ");
-    text::print_left(size, 10);
+    text::print_left(size, 15);
     let head = desk.head;
     let taken = head.allocate(Size(size), nodes, free_nodes);
     let answer = taken.answer;
@@ -111,7 +112,7 @@ fn print_freed(answer: BackAnswer, handed: u32, record: u32) -> u32 {
     }
 }
 
-// The span that was granted at this offset under this record.
+// The span of this record, which is said to start at this offset.
 fn hand_back(
     desk: Desk,
     offset: u32,
@@ -120,7 +121,9 @@ fn hand_back(
     free_nodes: &mut [u32],
 ) -> Desk {
     text::print(b"hand back ");
-    text::print_left(record, 5);
+    text::print_left(record, 2);
+    text::print(b"at ");
+    text::print_left(offset, 5);
     let head = desk.head;
     let span = Allocation {
         offset: offset,
@@ -146,6 +149,8 @@ pub fn print_run() {
     desk = take(desk, 30, &mut nodes, &mut free_nodes);
     desk = take(desk, 49, &mut nodes, &mut free_nodes);
     desk = take(desk, 48, &mut nodes, &mut free_nodes);
+    // not document 01's: record 1 starts at 20
+    desk = hand_back(desk, 50, 1, &mut nodes, &mut free_nodes);
     desk = hand_back(desk, 20, 1, &mut nodes, &mut free_nodes);
     desk = hand_back(desk, 20, 1, &mut nodes, &mut free_nodes);
     desk = take(desk, 0, &mut nodes, &mut free_nodes);

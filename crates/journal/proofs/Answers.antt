@@ -18,5 +18,7 @@ order-rows = record {
   kind-257 = refl;
   too-short = refl;
   too-long = refl;
+  record-alone = refl;
+  a-hand-back = refl;
   a-reset = refl;
 }

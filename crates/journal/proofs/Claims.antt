@@ -31,7 +31,8 @@ example = refl
 wrong-of : (named at : ℕ) (here : List ℕ) (c : Call) → named ≢ length (bodyOf c) → judged named at (callOf (kindOf c) here) ≡ Refused WrongLength
 unfolding callOf bodyOf inFields inBytes
 wrong-of named at here (Take size) other = sym (judged-wrong named at (Take record { 0 = fieldIn 0 here }) other)
-wrong-of named at here (HandBack handle) other = sym (judged-wrong named at (HandBack record { 0 = fieldIn 0 here }) other)
+wrong-of named at here (HandBack span) other =
+    sym (judged-wrong named at (HandBack record { offset = fieldIn 1 here; metadata = record { 0 = fieldIn 0 here } }) other)
 wrong-of named at here (SetUp size count) other = sym (judged-wrong named at (SetUp record { 0 = fieldIn 0 here } (fieldIn 1 here)) other)
 wrong-of named at here Reset other = sym (judged-wrong named at Reset other)
 
@@ -75,7 +76,7 @@ module _ (bytes : List ℕ) (at : ℕ) where
       let unknown : judged (lengthIn (drop at bytes)) at (callOf kind (drop at bytes)) ≡ Refused UnknownKind =
       rw (
         ne-eqb kind 1 (never (Take record { 0 = 0 })),
-        ne-eqb kind 2 (never (HandBack record { 0 = 0 })),
+        ne-eqb kind 2 (never (HandBack record { offset = 0; metadata = record { 0 = 0 } })),
         ne-eqb kind 3 (never (SetUp record { 0 = 0 } 0)),
         ne-eqb kind 4 (never Reset),
       ) in
@@ -123,7 +124,7 @@ journal-claims = record {
   slid = slid;
   are-bytes = are-bytes;
   take-fits = λ n h. (h, tt);
-  hand-back-fits = λ n h. (h, tt);
+  hand-back-fits = λ n m h k. (h, (k, tt));
   setup-fits = λ n m h k. (h, (k, tt));
   reset-fits = tt;
   one-writing = one-writing;

@@ -23,14 +23,14 @@ use Rattle.journal.proofs.Places.{here-whole, read-end}
 named-own : (c : Call) (after : List ℕ) → lengthIn (recordOf c ++ after) ≡ length (bodyOf c)
 unfolding lengthIn number recordOf bodyOf inFields inBytes
 named-own (Take size) after = refl
-named-own (HandBack handle) after = refl
+named-own (HandBack span) after = refl
 named-own (SetUp size count) after = refl
 named-own Reset after = refl
 
 kind-own : (c : Call) (after : List ℕ) → kindIn (recordOf c ++ after) ≡ kindOf c
 unfolding kindIn number recordOf bodyOf inFields inBytes
 kind-own (Take size) after = refl
-kind-own (HandBack handle) after = refl
+kind-own (HandBack span) after = refl
 kind-own (SetUp size count) after = refl
 kind-own Reset after = refl
 
@@ -38,7 +38,10 @@ kind-own Reset after = refl
 call-own : (c : Call) (after : List ℕ) → Fits c → callOf (kindOf c) (recordOf c ++ after) ≡ some c
 unfolding callOf fieldIn number recordOf bodyOf inFields inBytes
 call-own (Take size) after fits = ap (λ (n : ℕ). some (Take record { 0 = n })) (made-again 4 (size .0) (fits .0))
-call-own (HandBack handle) after fits = ap (λ (n : ℕ). some (HandBack record { 0 = n })) (made-again 4 (handle .0) (fits .0))
+call-own (HandBack span) after fits =
+    let records = made-again 4 (span .metadata .0) (fits .0) in
+    let offsets = made-again 4 (span .offset) (fits .1 .0) in
+    λ i. some (HandBack record { offset = offsets i; metadata = record { 0 = records i } })
 call-own (SetUp size count) after fits =
     let sizes = made-again 4 (size .0) (fits .0) in
     let counts = made-again 4 count (fits .1 .0) in
@@ -49,14 +52,14 @@ call-own Reset after fits = refl
 record-length : (c : Call) → length (recordOf c) ≡ 2 + length (bodyOf c)
 unfolding recordOf bodyOf inFields inBytes
 record-length (Take size) = refl
-record-length (HandBack handle) = refl
+record-length (HandBack span) = refl
 record-length (SetUp size count) = refl
 record-length Reset = refl
 
 body-length : (c : Call) → 2 ≤ length (bodyOf c)
 unfolding bodyOf inFields inBytes
 body-length (Take size) = omega arith
-body-length (HandBack handle) = omega arith
+body-length (HandBack span) = omega arith
 body-length (SetUp size count) = omega arith
 body-length Reset = omega arith
 

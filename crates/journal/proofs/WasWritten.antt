@@ -125,7 +125,7 @@ field-fits n here all =
 -- which call was found: by its kind, with the fields that stand there
 data FoundAs (kind : ℕ) (here : List ℕ) : Call → Type 0 where
   as-take : kind ≡ 1 → FoundAs kind here (Take record { 0 = fieldIn 0 here })
-  as-hand-back : kind ≡ 2 → FoundAs kind here (HandBack record { 0 = fieldIn 0 here })
+  as-hand-back : kind ≡ 2 → FoundAs kind here (HandBack record { offset = fieldIn 1 here; metadata = record { 0 = fieldIn 0 here } })
   as-set-up : kind ≡ 3 → FoundAs kind here (SetUp record { 0 = fieldIn 0 here } (fieldIn 1 here))
   as-reset : kind ≡ 4 → FoundAs kind here Reset
 
@@ -137,7 +137,7 @@ found-as kind here c e = elim (same? kind 1) [
       subst (FoundAs kind here) (cc) (as-take p)
   | differ p t ↦ elim (same? kind 2) [
     | same q u ↦
-        let is : some (HandBack record { 0 = fieldIn 0 here }) ≡ some c = rw (t, u) at e in
+        let is : some (HandBack record { offset = fieldIn 1 here; metadata = record { 0 = fieldIn 0 here } }) ≡ some c = rw (t, u) at e in
         subst (FoundAs kind here) (cc) (as-hand-back q)
     | differ q u ↦ elim (same? kind 3) [
       | same r v ↦
@@ -153,6 +153,16 @@ found-as kind here c e = elim (same? kind 1) [
   ]
 ]
 
+-- a record with two fields
+with-two : (kind : ℕ) (here : List ℕ) → AllBytes here → 4 ≤ length here → 2 + lengthIn here ≤ length here → lengthIn here ≡ 10 → kindIn here ≡ kind
+    → take 12 here ≡ inBytes 2 10 ++ (inBytes 2 kind ++ (inBytes 4 (fieldIn 0 here) ++ (inBytes 4 (fieldIn 1 here) ++ [])))
+with-two kind here all four whole own is =
+    let first = field 0 4 here all (omega (arith, own, whole)) in
+    let second = field 1 0 here all (omega (arith, own, whole)) in
+    front 8 here all four
+    ∙ (λ i. inBytes 2 (own i) ++ (inBytes 2 (is i) ++ first i))
+    ∙ ap (λ (rest : List ℕ). inBytes 2 10 ++ (inBytes 2 kind ++ (inBytes 4 (fieldIn 0 here) ++ rest))) second
+
 -- its record stands there, and its fields are 32-bit numbers
 stands : (here : List ℕ) (c : Call) → AllBytes here → 4 ≤ length here → 2 + lengthIn here ≤ length here → lengthIn here ≡ length (bodyOf c)
     → FoundAs (kindIn here) here c → (take (length (recordOf c)) here ≡ recordOf c) × Fits c
@@ -162,19 +172,10 @@ stands here c all four whole own (as-take kind) = (
       ∙ (λ i. inBytes 2 (own i) ++ (inBytes 2 (kind i) ++ field 0 0 here all (omega (arith, own, whole)) i)),
   (field-fits 0 here all, tt),
 )
-stands here c all four whole own (as-hand-back kind) = (
-  front 4 here all four
-      ∙ (λ i. inBytes 2 (own i) ++ (inBytes 2 (kind i) ++ field 0 0 here all (omega (arith, own, whole)) i)),
-  (field-fits 0 here all, tt),
-)
+stands here c all four whole own (as-hand-back kind) =
+    (with-two 2 here all four whole own kind, (field-fits 0 here all, (field-fits 1 here all, tt)))
 stands here c all four whole own (as-set-up kind) =
-    let first = field 0 4 here all (omega (arith, own, whole)) in
-    let second = field 1 0 here all (omega (arith, own, whole)) in (
-      front 8 here all four
-          ∙ (λ i. inBytes 2 (own i) ++ (inBytes 2 (kind i) ++ first i))
-          ∙ ap (λ (rest : List ℕ). inBytes 2 10 ++ (inBytes 2 3 ++ (inBytes 4 (fieldIn 0 here) ++ rest))) second,
-      (field-fits 0 here all, (field-fits 1 here all, tt)),
-    )
+    (with-two 3 here all four whole own kind, (field-fits 0 here all, (field-fits 1 here all, tt)))
 stands here c all four whole own (as-reset kind) =
     (front 0 here all four ∙ (λ i. inBytes 2 (own i) ++ (inBytes 2 (kind i) ++ [])), tt)
 

@@ -5,7 +5,6 @@ use mathlib.Core.List.{List, [], _∷_, _++_}
 use Prim.Native.Nat.{ℕ, _+_, _^_, _≤_, _<_}
 use lib.ListN.{length, take, drop, getD}
 use Rattle.small_float.specs.declared.Size.{Size}
-use Rattle.answers.specs.declared.Handle.{Handle}
 use Rattle.calls.specs.declared.Call.{Call}
 use Rattle.calls.specs.declared.Call.the-variants.{Take, HandBack, SetUp, Reset}
 use Rattle.calls.specs.Values.{Fits}
@@ -22,15 +21,16 @@ abbrev pub AllCallsFit : List Call → Type 0
 AllCallsFit [] = Unit
 AllCallsFit (c ∷ cs) = Fits c × AllCallsFit cs
 
--- "Setup of 100 with 6, take 20, hand back 0 is, whole: 0A 00 03 00 64 00 00 00 06 00 00 00 06 00 01 00 14 00 00 00 06 00 02 00 00 00 00 00."
+-- "Setup of 100 with 6, take 20, hand back 0 is, whole: 0A 00 03 00 64 00 00 00 06 00 00 00 06 00 01 00 14 00 00 00 06 00 02 00 00 00 00 00." Request 3
+-- amends it: hand back 0 at offset 0 is 0A 00 02 00 00 00 00 00 00 00 00 00.
 abbrev pub exampleCalls : List Call
-exampleCalls = SetUp record { 0 = 100 } 6 ∷ Take record { 0 = 20 } ∷ HandBack record { 0 = 0 } ∷ []
+exampleCalls = SetUp record { 0 = 100 } 6 ∷ Take record { 0 = 20 } ∷ HandBack record { offset = 0; metadata = record { 0 = 0 } } ∷ []
 
 abbrev pub exampleBytes : List ℕ
 exampleBytes =
     10 ∷ 0 ∷ 3 ∷ 0 ∷ 100 ∷ 0 ∷ 0 ∷ 0 ∷ 6 ∷ 0 ∷ 0 ∷ 0
     ∷ 6 ∷ 0 ∷ 1 ∷ 0 ∷ 20 ∷ 0 ∷ 0 ∷ 0
-    ∷ 6 ∷ 0 ∷ 2 ∷ 0 ∷ 0 ∷ 0 ∷ 0 ∷ 0 ∷ []
+    ∷ 10 ∷ 0 ∷ 2 ∷ 0 ∷ 0 ∷ 0 ∷ 0 ∷ 0 ∷ 0 ∷ 0 ∷ 0 ∷ 0 ∷ []
 
 -- the most bytes that a record's reading can hang on: a length of 65,535, and its own two bytes
 abbrev pub window : ℕ
@@ -58,6 +58,9 @@ pub record OrderRows : Type 0 where
   pub kind-257 : readAt (6 ∷ 0 ∷ 1 ∷ 1 ∷ 0 ∷ 0 ∷ 0 ∷ 0 ∷ []) 0 ≡ Refused UnknownKind
   pub too-short : readAt (2 ∷ 0 ∷ 1 ∷ 0 ∷ []) 0 ≡ Refused WrongLength
   pub too-long : readAt (6 ∷ 0 ∷ 4 ∷ 0 ∷ 0 ∷ 0 ∷ 0 ∷ 0 ∷ []) 0 ≡ Refused WrongLength
+  -- a hand-back without its offset, and with it: the record, then the offset
+  pub record-alone : readAt (6 ∷ 0 ∷ 2 ∷ 0 ∷ 7 ∷ 0 ∷ 0 ∷ 0 ∷ []) 0 ≡ Refused WrongLength
+  pub a-hand-back : readAt (10 ∷ 0 ∷ 2 ∷ 0 ∷ 7 ∷ 0 ∷ 0 ∷ 0 ∷ 9 ∷ 0 ∷ 0 ∷ 0 ∷ []) 0 ≡ Read (HandBack record { offset = 9; metadata = record { 0 = 7 } }) 12
   pub a-reset : readAt (9 ∷ 2 ∷ 0 ∷ 4 ∷ 0 ∷ 7 ∷ []) 1 ≡ Read Reset 5
 
 pub record JournalClaims : Type 0 where
@@ -95,7 +98,7 @@ pub record JournalClaims : Type 0 where
   -- ---- numbers below 256 are bytes, and every call whose numbers are below 2^32 fits, so that what is claimed of them is claimed of all
   pub are-bytes : (bytes : List ℕ) → ((i : ℕ) → i < length bytes → getD bytes i 0 < 256) → AllBytes bytes
   pub take-fits : (n : ℕ) → n < 2 ^ 32 → Fits (Take record { 0 = n })
-  pub hand-back-fits : (n : ℕ) → n < 2 ^ 32 → Fits (HandBack record { 0 = n })
+  pub hand-back-fits : (n m : ℕ) → n < 2 ^ 32 → m < 2 ^ 32 → Fits (HandBack record { offset = m; metadata = record { 0 = n } })
   pub setup-fits : (n m : ℕ) → n < 2 ^ 32 → m < 2 ^ 32 → Fits (SetUp record { 0 = n } m)
   pub reset-fits : Fits Reset
   -- ---- any two outcomes that the writer's statement allows coincide

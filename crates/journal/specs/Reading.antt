@@ -7,7 +7,6 @@ use Prim.Native.Nat.{ℕ, _+_, _*_}
 use lib.Dec.{eqb, ltb}
 use lib.ListN.{length, take, drop}
 use Rattle.small_float.specs.declared.Size.{Size}
-use Rattle.answers.specs.declared.Handle.{Handle}
 use Rattle.calls.specs.declared.Call.{Call}
 use Rattle.calls.specs.declared.Call.the-variants.{Take, HandBack, SetUp, Reset}
 use Rattle.journal.specs.declared.entry.Broken.{Broken}
@@ -35,7 +34,7 @@ unfoldable pub callOf : (kind : ℕ) → List ℕ → Option Call
 unfolding fieldIn
 callOf kind here =
     cond (eqb kind 1) (some (Take record { 0 = fieldIn 0 here }))
-    (cond (eqb kind 2) (some (HandBack record { 0 = fieldIn 0 here }))
+    (cond (eqb kind 2) (some (HandBack record { offset = fieldIn 1 here; metadata = record { 0 = fieldIn 0 here } }))
     (cond (eqb kind 3) (some (SetUp record { 0 = fieldIn 0 here } (fieldIn 1 here)))
     (cond (eqb kind 4) (some Reset) none)))
 

@@ -12,10 +12,11 @@ use Rattle.journal.specs.declared.entry.Wrote.{Wrote}
 use Rattle.journal.specs.declared.entry.Wrote.the-variants.{Before, NoRoom}
 use Rattle.journal.specs.Bytes.{inBytes}
 
--- "Kind 1 is take (size), 2 hand back (record), 3 setup (size, count), 4 reset (no field)."
+-- "Kind 1 is take (size), 2 hand back (record), 3 setup (size, count), 4 reset (no field)." Request 3 amends it: "Journal kind 2 gains the offset
+-- after the record and its length becomes 10".
 abbrev pub kindOf : Call → ℕ
 kindOf (Take size) = 1
-kindOf (HandBack handle) = 2
+kindOf (HandBack span) = 2
 kindOf (SetUp size count) = 3
 kindOf Reset = 4
 

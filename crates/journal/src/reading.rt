@@ -6,6 +6,7 @@ ghost use Rattle.journal.specs.Bytes.{number};
 ghost use Rattle.journal.specs.Reading.{readAt, judged, callOf};
 use crate::entry::Broken;
 use crate::entry::Entry;
+use answers::Allocation;
 use answers::Handle;
 use calls::Call;
 use small_float::Size;
@@ -47,10 +48,15 @@ fn hand_back_at(bytes: &[u8], at: usize, len: usize) -> Entry
     requires { ⌜ (at + 4 ≤ length (now bytes)) × (at + (2 + len) ≤ length (now bytes)) ⌝ }
     ensures { λ r. ⌜ r ≡ judged len at (callOf 2 (drop at (now (bytes .entry)))) ⌝ }
 {
-    if len != 6 {
+    if len != 10 {
         return Entry::Refused(Broken::WrongLength);
     }
-    Entry::Read(Call::HandBack(Handle(get32(bytes, at + 4))), at + (2 + len))
+    let record = Handle(get32(bytes, at + 4));
+    let span = Allocation {
+        offset: get32(bytes, at + 8),
+        metadata: record,
+    };
+    Entry::Read(Call::HandBack(span), at + (2 + len))
 }
 
 fn set_up_at(bytes: &[u8], at: usize, len: usize) -> Entry

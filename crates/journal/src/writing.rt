@@ -72,7 +72,7 @@ pub fn bytes_of(call: Call) -> usize
 {
     match call {
         Call::Take(_) => 8,
-        Call::HandBack(_) => 8,
+        Call::HandBack(_) => 12,
         Call::SetUp(_, _) => 12,
         Call::Reset => 4,
     }
@@ -85,7 +85,7 @@ fn put(call: Call, out: &mut [u8], at: usize)
 {
     match call {
         Call::Take(size) => put_one(out, at, 1, size.0),
-        Call::HandBack(handle) => put_one(out, at, 2, handle.0),
+        Call::HandBack(span) => put_two(out, at, 2, span.metadata.0, span.offset),
         Call::SetUp(size, count) => put_two(out, at, 3, size.0, count),
         Call::Reset => put_front(out, at, 2, 4),
     }

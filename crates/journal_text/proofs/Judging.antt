@@ -7,14 +7,13 @@ use mathlib.Core.List.{List}
 use lib.ListN.{take, drop, getD}
 use lib.Seq.{drop-drop, getD-drop}
 use Rattle.calls.specs.declared.Call.{Call}
-use Rattle.calls.specs.declared.Call.the-variants.{SetUp}
 use Rattle.journal_text.specs.declared.line.Fault.{Fault}
 use Rattle.journal_text.specs.declared.line.Fault.the-variants.{TooMuch}
 use Rattle.journal_text.specs.declared.line.Line.the-variants.{Holds, Bad}
 use Rattle.journal_text.specs.declared.line.Value.{Value}
 use Rattle.journal_text.specs.declared.line.Value.the-variants.{Is, Wrong}
 use Rattle.journal_text.specs.Words.{isBlank, isInk, leading, onlyBlanks, trimmed, wordIn, behindWord}
-use Rattle.journal_text.specs.Lines.{ended, lastNumber, holds, setUp}
+use Rattle.journal_text.specs.Lines.{ended, lastNumber, holds, holdsTwo}
 
 -- ---- the first word stands from the blanks in front to where its bytes end
 module _ (text : List ℕ) (start many : ℕ) (blank : start ≡ leading isBlank text) (ink : many ≡ leading isInk (drop start text)) where
@@ -61,13 +60,13 @@ pub failing : (call : ℕ → Call) {v w : Value} {why : Fault} → v ≡ w → 
 unfolding holds
 failing call e found = sym (ap (λ (x : Value). holds call x) (sym e ∙ found))
 
--- ---- a setup's size, then its count
-pub sized : {v w : Value} {size : ℕ} {rest behind : List ℕ} → v ≡ w → v ≡ Is size → rest ≡ behind
-    → holds (λ count. SetUp record { 0 = size } count) (lastNumber rest) ≡ setUp w behind
-unfolding setUp
-sized {v} {w} {size} {rest} {behind} e found same =
-    ap (λ (text : List ℕ). setUp (Is size) text) same ∙ sym (ap (λ (x : Value). setUp x behind) (sym e ∙ found))
+-- ---- the same with two numbers: the first of them found, or not
+pub with-first : (call : ℕ → ℕ → Call) {v w : Value} {n : ℕ} {rest behind : List ℕ} → v ≡ w → v ≡ Is n → rest ≡ behind
+    → holds (call n) (lastNumber rest) ≡ holdsTwo call w behind
+unfolding holdsTwo
+with-first call {v} {w} {n} {rest} {behind} e found same =
+    ap (λ (text : List ℕ). holdsTwo call (Is n) text) same ∙ sym (ap (λ (x : Value). holdsTwo call x behind) (sym e ∙ found))
 
-pub unsized : {v w : Value} {why : Fault} (behind : List ℕ) → v ≡ w → v ≡ Wrong why → Bad why ≡ setUp w behind
-unfolding setUp
-unsized behind e found = sym (ap (λ (x : Value). setUp x behind) (sym e ∙ found))
+pub without-first : (call : ℕ → ℕ → Call) {v w : Value} {why : Fault} (behind : List ℕ) → v ≡ w → v ≡ Wrong why → Bad why ≡ holdsTwo call w behind
+unfolding holdsTwo
+without-first call behind e found = sym (ap (λ (x : Value). holdsTwo call x behind) (sym e ∙ found))

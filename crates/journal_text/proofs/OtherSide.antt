@@ -24,7 +24,7 @@ use Rattle.journal_text.specs.declared.line.Value.the-variants.{Is, Wron
 use Rattle.journal_text.specs.Decimal.{decimal, spaced}
 use Rattle.journal_text.specs.Texts.{takeWord, backWord, setUpWord, resetWord, answerText, figuresOf}
 use Rattle.journal_text.specs.Words.{isDigit, leading, onlyBlanks, trimmed, wordIn, behindWord, same}
-use Rattle.journal_text.specs.Lines.{madeOn, valued, numberOf, ended, lastNumber, holds, setUp, resets, callIn, lineIn}
+use Rattle.journal_text.specs.Lines.{madeOn, valued, numberOf, ended, lastNumber, holds, holdsTwo, resets, callIn, lineIn}
 use Rattle.journal_text.specs.Facts.{Digits, NoZeroInFront}
 use Rattle.journal_text.proofs.Scanning.{digit-range, each-such}
 use Rattle.journal_text.proofs.Decimals.{decimal-digit, decimal-more, of-tenths, length-digit, has-digits, made-append, made-grows, makes-up}
@@ -173,17 +173,21 @@ unfolding holds
 holds-fits call each (fitting {n} h) = a-call (each n h)
 holds-fits call each no-number = no-call
 
-set-up-fits : {v : Value} (behind : List ℕ) → ValueFits v → LineFits (setUp v behind)
-unfolding setUp
-set-up-fits behind (fitting {n} h) = holds-fits (λ count. SetUp record { 0 = n } count) (λ count k. (h, (k, tt))) (last-fits behind)
-set-up-fits behind no-number = no-call
+two-fit : (call : ℕ → ℕ → Call) → ((n m : ℕ) → n < 2 ^ 32 → m < 2 ^ 32 → Fits (call n m)) → {v : Value} (behind : List ℕ) → ValueFits v
+    → LineFits (holdsTwo call v behind)
+unfolding holdsTwo
+two-fit call each behind (fitting {n} h) = holds-fits (call n) (λ m k. each n m h k) (last-fits behind)
+two-fit call each behind no-number = no-call
 
 call-fits : (word behind : List ℕ) → LineFits (callIn word behind)
 unfolding callIn resets
 call-fits word behind =
-    line-either (same word setUpWord) (set-up-fits (behindWord behind) (number-fits (wordIn behind)))
+    line-either (same word setUpWord)
+    (two-fit (λ size count. SetUp record { 0 = size } count) (λ n m h k. (h, (k, tt))) (behindWord behind) (number-fits (wordIn behind)))
     (line-either (same word takeWord) (holds-fits (λ size. Take record { 0 = size }) (λ n h. (h, tt)) (last-fits behind))
-    (line-either (same word backWord) (holds-fits (λ handle. HandBack record { 0 = handle }) (λ n h. (h, tt)) (last-fits behind))
+    (line-either (same word backWord)
+    (two-fit (λ handle offset. HandBack record { offset = offset; metadata = record { 0 = handle } }) (λ n m h k. (h, (k, tt))) (behindWord behind)
+    (number-fits (wordIn behind)))
     (line-either (same word resetWord) (line-either (onlyBlanks behind) (a-call tt) no-call) no-call)))
 
 line-fits : (text : List ℕ) → LineFits (lineIn text)

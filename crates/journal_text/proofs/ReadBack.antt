@@ -16,7 +16,7 @@ use Rattle.journal_text.specs.declared.line.Value.the-variants.{Is}
 use Rattle.journal_text.specs.Decimal.{decimal, spaced}
 use Rattle.journal_text.specs.Texts.{takeWord, backWord, setUpWord, resetWord, textOf}
 use Rattle.journal_text.specs.Words.{isBlank, isInk, isDigit, leading, onlyBlanks, trimmed, wordIn, behindWord, same}
-use Rattle.journal_text.specs.Lines.{valued, numberOf, ended, lastNumber, holds, setUp, resets, callIn, lineIn}
+use Rattle.journal_text.specs.Lines.{valued, numberOf, ended, lastNumber, holds, holdsTwo, resets, callIn, lineIn}
 use Rattle.journal_text.proofs.Scanning.{all-first}
 use Rattle.journal_text.proofs.Decimals.{decimal-digit, decimal-more, of-tenths, has-digits, makes-up}
 
@@ -147,6 +147,15 @@ last-read n h =
     ∙ ap (λ (v : Value). ended v (spaced [])) (decimal-read n h)
     ∙ rw nothing-there
 
+-- a call with two numbers
+two-read : (call : ℕ → ℕ → Call) (n m : ℕ) → n < 2 ^ 32 → m < 2 ^ 32
+    → holdsTwo call (numberOf (wordIn (spaced (n ∷ m ∷ [])))) (behindWord (spaced (n ∷ m ∷ []))) ≡ Holds (call n m)
+unfolding holds holdsTwo
+two-read call n m h k =
+    ap₂ (λ (word behind : List ℕ). holdsTwo call (numberOf word) behind) (spaced-word n (m ∷ [])) (spaced-behind n (m ∷ []))
+    ∙ ap (λ (v : Value). holdsTwo call v (spaced (m ∷ []))) (decimal-read n h)
+    ∙ ap (λ (v : Value). holds (call n) v) (last-read m k)
+
 -- ---- a call
 -- a line that begins with a word, and with no mark of a comment, is judged by it
 word-judged : (x : ℕ) (a b : List ℕ) → Word (x ∷ a) → leading isInk b ≡ 0 → (x ≡ 35 → ⊥) → lineIn ((x ∷ a) ++ b) ≡ callIn (x ∷ a) b
@@ -177,19 +186,18 @@ unfolding leading isInk isBlank
 reset-word = record { some = omega arith; ink = refl }
 
 pub reads-back : (c : Call) → Fits c → lineIn (textOf c) ≡ Holds c
-unfolding textOf callIn same holds setUp resets
+unfolding textOf callIn same holds resets
 reads-back (Take size) fits =
     word-judged 116 (97 ∷ 107 ∷ 101 ∷ []) (spaced (size .0 ∷ [])) take-word (spaced-stops _) (λ e. omega arith)
     ∙ ap (λ (v : Value). holds (λ n. Take record { 0 = n }) v) (last-read (size .0) (fits .0))
-reads-back (HandBack handle) fits =
-    word-judged 98 (97 ∷ 99 ∷ 107 ∷ []) (spaced (handle .0 ∷ [])) back-word (spaced-stops _) (λ e. omega arith)
-    ∙ ap (λ (v : Value). holds (λ n. HandBack record { 0 = n }) v) (last-read (handle .0) (fits .0))
+reads-back (HandBack span) fits =
+    let numbers = span .metadata .0 ∷ span .offset ∷ [] in
+    word-judged 98 (97 ∷ 99 ∷ 107 ∷ []) (spaced numbers) back-word (spaced-stops numbers) (λ e. omega arith)
+    ∙ two-read (λ n m. HandBack record { offset = m; metadata = record { 0 = n } }) (span .metadata .0) (span .offset) (fits .0) (fits .1 .0)
 reads-back (SetUp size count) fits =
     let numbers = size .0 ∷ count ∷ [] in
     word-judged 115 (101 ∷ 116 ∷ 117 ∷ 112 ∷ []) (spaced numbers) set-up-word (spaced-stops numbers) (λ e. omega arith)
-    ∙ ap₂ (λ (word behind : List ℕ). setUp (numberOf word) behind) (spaced-word (size .0) (count ∷ [])) (spaced-behind (size .0) (count ∷ []))
-    ∙ ap (λ (v : Value). setUp v (spaced (count ∷ []))) (decimal-read (size .0) (fits .0))
-    ∙ ap (λ (v : Value). holds (λ n. SetUp size n) v) (last-read count (fits .1 .0))
+    ∙ two-read (λ n m. SetUp record { 0 = n } m) (size .0) count (fits .0) (fits .1 .0)
 reads-back Reset fits =
     word-judged 114 (101 ∷ 115 ∷ 101 ∷ 116 ∷ []) (spaced []) reset-word (spaced-stops []) (λ e. omega arith)
     ∙ rw nothing-there

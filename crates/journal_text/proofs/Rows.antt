@@ -1,11 +1,11 @@
 -- Each row by computing. Assumes nothing.
 use mathlib.Core.Path.{refl}
 use Rattle.journal_text.specs.Words.{isBlank, isInk, isDigit, leading, onlyBlanks, trimmed, wordIn, behindWord, same}
-use Rattle.journal_text.specs.Lines.{madeOn, valued, numberOf, ended, lastNumber, holds, setUp, resets, callIn, lineIn}
+use Rattle.journal_text.specs.Lines.{madeOn, valued, numberOf, ended, lastNumber, holds, holdsTwo, resets, callIn, lineIn}
 use Rattle.journal_text.specs.Rows.{Rows}
 
 pub rows : Rows
-unfolding isBlank isInk isDigit leading onlyBlanks trimmed wordIn behindWord same madeOn valued numberOf ended lastNumber holds setUp resets callIn lineIn
+unfolding isBlank isInk isDigit leading onlyBlanks trimmed wordIn behindWord same madeOn valued numberOf ended lastNumber holds holdsTwo resets callIn lineIn
 rows = record {
   set-up = refl;
   zeros-in-front = refl;
@@ -14,6 +14,7 @@ rows = record {
   comment = refl;
   no-word = refl;
   no-number = refl;
+  no-offset = refl;
   not-digits = refl;
   too-large = refl;
   largest = refl;

@@ -44,11 +44,11 @@ unfoldable pub holds : (ℕ → Call) → Value → Line
 holds call (Is n) = Holds (call n)
 holds call (Wrong why) = Bad why
 
--- a setup's size, then its count
-unfoldable pub setUp : Value → (behind : List ℕ) → Line
+-- and with two of them: a setup's size, then its count; a span's record, then where it starts
+unfoldable pub holdsTwo : (ℕ → ℕ → Call) → Value → (behind : List ℕ) → Line
 unfolding holds lastNumber
-setUp (Is size) behind = holds (λ count. SetUp record { 0 = size } count) (lastNumber behind)
-setUp (Wrong why) behind = Bad why
+holdsTwo call (Is n) behind = holds (call n) (lastNumber behind)
+holdsTwo call (Wrong why) behind = Bad why
 
 -- a reset has no number
 unfoldable pub resets : (behind : List ℕ) → Line
@@ -56,11 +56,12 @@ resets behind = cond (onlyBlanks behind) (Holds Reset) (Bad TooMuch)
 
 -- by the first word, and what stands behind it
 unfoldable pub callIn : (word behind : List ℕ) → Line
-unfolding holds lastNumber setUp resets
+unfolding holds lastNumber holdsTwo resets
 callIn word behind =
-    cond (same word setUpWord) (setUp (numberOf (wordIn behind)) (behindWord behind))
+    cond (same word setUpWord) (holdsTwo (λ size count. SetUp record { 0 = size } count) (numberOf (wordIn behind)) (behindWord behind))
     (cond (same word takeWord) (holds (λ size. Take record { 0 = size }) (lastNumber behind))
-    (cond (same word backWord) (holds (λ handle. HandBack record { 0 = handle }) (lastNumber behind))
+    (cond (same word backWord)
+    (holdsTwo (λ handle offset. HandBack record { offset = offset; metadata = record { 0 = handle } }) (numberOf (wordIn behind)) (behindWord behind))
     (cond (same word resetWord) (resets behind)
     (Bad UnknownWord))))
 

@@ -11,8 +11,9 @@ pub record Rows : Type 0 where
   pub set-up : lineIn (115 ∷ 101 ∷ 116 ∷ 117 ∷ 112 ∷ 32 ∷ 49 ∷ 48 ∷ 48 ∷ 32 ∷ 54 ∷ []) ≡ Holds (SetUp record { 0 = 100 } 6)
   -- take 007
   pub zeros-in-front : lineIn (116 ∷ 97 ∷ 107 ∷ 101 ∷ 32 ∷ 48 ∷ 48 ∷ 55 ∷ []) ≡ Holds (Take record { 0 = 7 })
-  -- back and 0, with a space, a tab and a carriage return about them
-  pub blanks-anywhere : lineIn (32 ∷ 98 ∷ 97 ∷ 99 ∷ 107 ∷ 9 ∷ 32 ∷ 48 ∷ 32 ∷ 13 ∷ []) ≡ Holds (HandBack record { 0 = 0 })
+  -- back, the record 7 and the offset 9, with spaces, a tab and a carriage return about them
+  pub blanks-anywhere : lineIn (32 ∷ 98 ∷ 97 ∷ 99 ∷ 107 ∷ 9 ∷ 32 ∷ 55 ∷ 32 ∷ 57 ∷ 32 ∷ 13 ∷ [])
+      ≡ Holds (HandBack record { offset = 9; metadata = record { 0 = 7 } })
   -- two spaces
   pub nothing : lineIn (32 ∷ 32 ∷ []) ≡ Blank
   -- # take 1
@@ -21,12 +22,16 @@ pub record Rows : Type 0 where
   pub no-word : lineIn (116 ∷ 97 ∷ 107 ∷ 101 ∷ 110 ∷ 32 ∷ 49 ∷ []) ≡ Bad UnknownWord
   -- setup 100
   pub no-number : lineIn (115 ∷ 101 ∷ 116 ∷ 117 ∷ 112 ∷ 32 ∷ 49 ∷ 48 ∷ 48 ∷ []) ≡ Bad MissingNumber
+  -- back 0
+  pub no-offset : lineIn (98 ∷ 97 ∷ 99 ∷ 107 ∷ 32 ∷ 48 ∷ []) ≡ Bad MissingNumber
   -- take 1O
   pub not-digits : lineIn (116 ∷ 97 ∷ 107 ∷ 101 ∷ 32 ∷ 49 ∷ 79 ∷ []) ≡ Bad NotANumber
   -- take 4294967296
   pub too-large : lineIn (116 ∷ 97 ∷ 107 ∷ 101 ∷ 32 ∷ 52 ∷ 50 ∷ 57 ∷ 52 ∷ 57 ∷ 54 ∷ 55 ∷ 50 ∷ 57 ∷ 54 ∷ []) ≡ Bad TooLarge
-  -- back 4294967295
-  pub largest : lineIn (98 ∷ 97 ∷ 99 ∷ 107 ∷ 32 ∷ 52 ∷ 50 ∷ 57 ∷ 52 ∷ 57 ∷ 54 ∷ 55 ∷ 50 ∷ 57 ∷ 53 ∷ []) ≡ Holds (HandBack record { 0 = 4294967295 })
+  -- back 4294967295 4294967295
+  pub largest : lineIn
+      (98 ∷ 97 ∷ 99 ∷ 107 ∷ 32 ∷ 52 ∷ 50 ∷ 57 ∷ 52 ∷ 57 ∷ 54 ∷ 55 ∷ 50 ∷ 57 ∷ 53 ∷ 32 ∷ 52 ∷ 50 ∷ 57 ∷ 52 ∷ 57 ∷ 54 ∷ 55 ∷ 50 ∷ 57 ∷ 53 ∷ [])
+      ≡ Holds (HandBack record { offset = 4294967295; metadata = record { 0 = 4294967295 } })
   -- reset 1
   pub too-much : lineIn (114 ∷ 101 ∷ 115 ∷ 101 ∷ 116 ∷ 32 ∷ 49 ∷ []) ≡ Bad TooMuch
   -- take 1 # one

@@ -27,11 +27,11 @@ resetWord = 114 ∷ 101 ∷ 115 ∷ 101 ∷ 116 ∷ []
 
 abbrev pub wordOf : Call → List ℕ
 wordOf (Take size) = takeWord
-wordOf (HandBack handle) = backWord
+wordOf (HandBack span) = backWord
 wordOf (SetUp size count) = setUpWord
 wordOf Reset = resetWord
 
--- the word, then the call's numbers: setup 100 6, take 20, back 0, reset
+-- the word, then the call's numbers: setup 100 6, take 20, back 0 0, reset
 unfoldable pub textOf : Call → List ℕ
 textOf c = wordOf c ++ spaced (fieldsOf c)
 

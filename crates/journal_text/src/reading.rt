@@ -5,10 +5,11 @@ ghost use Prim.Native.Nat.{_+_, _-_, _<_, _≤_};
 ghost use lib.ListN.{length, take, drop};
 ghost use Rattle.calls.specs.declared.Call.the-variants as call;
 ghost use Rattle.journal_text.specs.Words.{isBlank, isInk, isDigit, leading, onlyBlanks, wordIn, behindWord, same};
-ghost use Rattle.journal_text.specs.Lines.{madeOn, valued, numberOf, lastNumber, holds, setUp, resets, callIn, lineIn};
+ghost use Rattle.journal_text.specs.Lines.{madeOn, valued, numberOf, lastNumber, holds, holdsTwo, resets, callIn, lineIn};
 use crate::line::Fault;
 use crate::line::Line;
 use crate::line::Value;
+use answers::Allocation;
 use answers::Handle;
 use calls::Call;
 use small_float::Size;
@@ -172,11 +173,25 @@ fn take_in(text: &[u8]) -> Line
     }
 }
 
-fn hand_back_in(text: &[u8]) -> Line
-    ensures { λ r. ⌜ r ≡ holds (λ handle. call.HandBack record { 0 = handle }) (lastNumber (now (text .entry))) ⌝ }
+// A hand-back whose record is read.
+fn offset_in(handle: u32, text: &[u8]) -> Line
+    ensures { λ r. ⌜ r ≡ holds (λ offset. call.HandBack record { offset = offset; metadata = record { 0 = handle } }) (lastNumber (now (text .entry))) ⌝ }
 {
     match last_number(text) {
-        Value::Is(handle) => Line::Holds(Call::HandBack(Handle(handle))),
+        Value::Is(offset) => Line::Holds(Call::HandBack(Allocation {
+            offset,
+            metadata: Handle(handle),
+        })),
+        Value::Wrong(why) => Line::Bad(why),
+    }
+}
+
+fn hand_back_in(text: &[u8]) -> Line
+    ensures { λ r. ⌜ r ≡ holdsTwo (λ handle offset. call.HandBack record { offset = offset; metadata = record { 0 = handle } })
+        (numberOf (wordIn (now (text .entry)))) (behindWord (now (text .entry))) ⌝ }
+{
+    match number_in(text) {
+        Value::Is(handle) => offset_in(handle, behind(text)),
         Value::Wrong(why) => Line::Bad(why),
     }
 }
@@ -192,7 +207,8 @@ fn count_in(size: u32, text: &[u8]) -> Line
 }
 
 fn set_up_in(text: &[u8]) -> Line
-    ensures { λ r. ⌜ r ≡ setUp (numberOf (wordIn (now (text .entry)))) (behindWord (now (text .entry))) ⌝ }
+    ensures { λ r. ⌜ r ≡ holdsTwo (λ size count. call.SetUp record { 0 = size } count)
+        (numberOf (wordIn (now (text .entry)))) (behindWord (now (text .entry))) ⌝ }
 {
     match number_in(text) {
         Value::Is(size) => count_in(size, behind(text)),

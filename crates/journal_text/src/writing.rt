@@ -96,7 +96,7 @@ fn put_call(call: Call, out: &mut [u8]) -> usize
 {
     match call {
         Call::Take(size) => put_one(b"take", size.0, out),
-        Call::HandBack(handle) => put_one(b"back", handle.0, out),
+        Call::HandBack(span) => put_two(b"back", span.metadata.0, span.offset, out),
         Call::SetUp(size, count) => put_two(b"setup", size.0, count, out),
         Call::Reset => put_word(b"reset", out),
     }

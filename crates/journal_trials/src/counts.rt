@@ -1,5 +1,5 @@
-// What came of the calls, counted: places 1 to 6 are the refusals, 7 the grants, 0 what else was done; 8 the journals that came to their end, and 13 to 15
-// those that broke off. And the sum of all that is printed, which hangs on every line and on their order.
+// What came of the calls, counted: places 1 to 6 and 8 are the refusals, 7 the grants, 0 what else was done; 9 the journals that came to their end, and
+// 13 to 15 those that broke off. And the sum of all that is printed, which hangs on every line and on their order.
 use calls::Answer;
 use journal::entry::Broken;
 use libc::STDOUT_FILENO;
@@ -44,7 +44,7 @@ pub fn of_answer(sum: u32, answer: Answer, tally: &mut [u64; 16]) -> u32 {
 }
 
 pub fn of_end(sum: u32, tally: &mut [u64; 16]) -> u32 {
-    raise(tally, 8);
+    raise(tally, 9);
     mix(sum, END)
 }
 
@@ -67,7 +67,7 @@ pub fn print_sum(journals: u32, sum: u32) {
 }
 
 pub fn print(tally: &[u64; 16]) {
-    line(b"end ", tally[8]);
+    line(b"end ", tally[9]);
     line(b"13 ", tally[13]);
     line(b"14 ", tally[14]);
     line(b"15 ", tally[15]);
@@ -78,5 +78,6 @@ pub fn print(tally: &[u64; 16]) {
     line(b"refused 4 ", tally[4]);
     line(b"refused 5 ", tally[5]);
     line(b"refused 6 ", tally[6]);
+    line(b"refused 8 ", tally[8]);
     line(b"done ", tally[0]);
 }

@@ -1,4 +1,5 @@
 // Journals that are drawn and then damaged. oracle/README.md says how, and the oracle draws the same.
+use answers::Allocation;
 use answers::Handle;
 use calls::Call;
 use journal::entry::Wrote;
@@ -19,6 +20,50 @@ pub struct DrawnCall {
 pub struct Drawn {
     pub seed: u32,
     pub len: usize,
+}
+
+// The span that a take would get if nothing had come back and every take was granted, and the one that the last take would have got. Hand-backs are
+// drawn near the last, for a record and an offset drawn apart hardly ever agree.
+struct Spans {
+    next: Allocation,
+    last: Allocation,
+}
+
+fn span(record: u32, offset: u32) -> Allocation {
+    Allocation {
+        offset,
+        metadata: Handle(record),
+    }
+}
+
+fn at_start() -> Spans {
+    let first = span(0, 0);
+    Spans {
+        next: first,
+        last: first,
+    }
+}
+
+fn after_take(spans: Spans, size: Size) -> Spans {
+    let last = spans.next;
+    let record = last.metadata;
+    Spans {
+        next: span(
+            std::num::wrapping_add_u32(record.0, 1),
+            std::num::wrapping_add_u32(last.offset, size.0),
+        ),
+        last,
+    }
+}
+
+// The same after a call that was drawn.
+fn after(spans: Spans, call: Call) -> Spans {
+    match call {
+        Call::Take(size) => after_take(spans, size),
+        Call::HandBack(_) => spans,
+        Call::SetUp(_, _) => at_start(),
+        Call::Reset => at_start(),
+    }
 }
 
 fn below(seed: u32, limit: u32) -> Number {
@@ -89,20 +134,53 @@ fn take(seed: u32) -> DrawnCall {
     }
 }
 
-fn hand_back(seed: u32) -> DrawnCall {
-    let which = below(seed, 8);
-    let record = if which.n == 0 {
-        word(which.seed)
-    } else {
-        below(which.seed, 8)
-    };
+fn back(seed: u32, record: u32, offset: u32) -> DrawnCall {
     DrawnCall {
-        seed: record.seed,
-        call: Call::HandBack(Handle(record.n)),
+        seed,
+        call: Call::HandBack(span(record, offset)),
     }
 }
 
-fn of_kind(kind: Number) -> DrawnCall {
+fn back_of_words(seed: u32) -> DrawnCall {
+    let record = word(seed);
+    let offset = word(record.seed);
+    back(offset.seed, record.n, offset.n)
+}
+
+fn back_of_small(seed: u32) -> DrawnCall {
+    let record = below(seed, 8);
+    let offset = below(record.seed, 60);
+    back(offset.seed, record.n, offset.n)
+}
+
+// One behind where the last take's span starts: a live record that starts elsewhere, if that take was granted there.
+fn back_beside(seed: u32, last: Allocation) -> DrawnCall {
+    let record = last.metadata;
+    back(seed, record.0, std::num::wrapping_add_u32(last.offset, 1))
+}
+
+fn back_at_0(seed: u32) -> DrawnCall {
+    let record = below(seed, 8);
+    back(record.seed, record.n, 0)
+}
+
+fn hand_back(seed: u32, last: Allocation) -> DrawnCall {
+    let which = below(seed, 8);
+    let seed = which.seed;
+    let which = which.n;
+    match which {
+        0 => back_of_words(seed),
+        1 => back_of_small(seed),
+        2 => back_beside(seed, last),
+        3 | 4 => back_at_0(seed),
+        _ => DrawnCall {
+            seed,
+            call: Call::HandBack(last),
+        },
+    }
+}
+
+fn of_kind(kind: Number, last: Allocation) -> DrawnCall {
     let seed = kind.seed;
     if kind.n == 0 {
         return set_up(seed);
@@ -116,23 +194,23 @@ fn of_kind(kind: Number) -> DrawnCall {
     if kind.n < 10 {
         return take(seed);
     }
-    hand_back(seed)
+    hand_back(seed, last)
 }
 
 // The first call is a setup, seven times in eight.
-fn first_call(seed: u32) -> DrawnCall {
+fn first_call(seed: u32, last: Allocation) -> DrawnCall {
     let which = below(seed, 8);
     if which.n == 0 {
-        return of_kind(below(which.seed, 16));
+        return of_kind(below(which.seed, 16), last);
     }
     set_up(which.seed)
 }
 
-fn next_call(seed: u32, i: u32) -> DrawnCall {
+fn next_call(seed: u32, i: u32, last: Allocation) -> DrawnCall {
     if i == 0 {
-        return first_call(seed);
+        return first_call(seed, last);
     }
-    of_kind(below(seed, 16))
+    of_kind(below(seed, 16), last)
 }
 
 // A record more, behind those that are there.
@@ -149,12 +227,15 @@ pub fn draw(seed: u32, journal: &mut [u8]) -> Drawn {
     let calls = 1 + many.n % 12;
     let mut seed = many.seed;
     let mut len: usize = 0;
+    let mut spans = at_start();
     let mut i = 0u32;
     while i < calls {
-        let drawn = next_call(seed, i);
+        let last = spans.last;
+        let drawn = next_call(seed, i, last);
         i += 1;
         seed = drawn.seed;
         let call = drawn.call;
+        spans = after(spans, call);
         len = written(call, journal, len);
     }
     Drawn { seed, len }

@@ -1,6 +1,7 @@
 // Records written where they have room and where they have none: each call at each place of short buffers. What was answered and every byte after it go
 // into the sum.
 use crate::counts;
+use answers::Allocation;
 use answers::Handle;
 use calls::Call;
 use journal::entry::Wrote;
@@ -104,8 +105,12 @@ pub fn try_all() {
         none: 0,
         sum: 0,
     };
+    let span = Allocation {
+        offset: 1144201745,
+        metadata: Handle(2289526357),
+    };
     let one = try_call(none, Call::Take(Size(1144201745)), &mut buffer);
-    let two = try_call(one, Call::HandBack(Handle(2289526357)), &mut buffer);
+    let two = try_call(one, Call::HandBack(span), &mut buffer);
     let three = try_call(two, Call::SetUp(Size(1144201745), 2289526357), &mut buffer);
     let all = try_call(three, Call::Reset, &mut buffer);
     counts::line(b"room ", all.room as u64);

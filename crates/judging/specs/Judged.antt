@@ -24,8 +24,8 @@ abbrev pub isQuestion : Call → Bool
 isQuestion (call.SetUp size count) = false
 isQuestion call.Reset = false
 isQuestion (call.Take size) = false
-isQuestion (call.HandBack number) = false
-isQuestion (call.SizeOf number) = true
+isQuestion (call.HandBack offset number) = false
+isQuestion (call.SizeOf offset number) = true
 isQuestion call.Report = true
 isQuestion (call.ClassOf class) = true
 isQuestion call.ClassesHeld = true
@@ -39,8 +39,8 @@ abbrev pub isSetUp : Call → Bool
 isSetUp (call.SetUp size count) = true
 isSetUp call.Reset = false
 isSetUp (call.Take size) = false
-isSetUp (call.HandBack number) = false
-isSetUp (call.SizeOf number) = false
+isSetUp (call.HandBack offset number) = false
+isSetUp (call.SizeOf offset number) = false
 isSetUp call.Report = false
 isSetUp (call.ClassOf class) = false
 isSetUp call.ClassesHeld = false
@@ -83,8 +83,8 @@ abbrev pub isOutside : Call → Answer → (store : ℕ) → Bool
 isOutside (call.SetUp size count) a store = false
 isOutside call.Reset a store = false
 isOutside (call.Take size) a store = grantOutside a size store
-isOutside (call.HandBack number) a store = false
-isOutside (call.SizeOf number) a store = false
+isOutside (call.HandBack offset number) a store = false
+isOutside (call.SizeOf offset number) a store = false
 isOutside call.Report a store = false
 isOutside (call.ClassOf class) a store = false
 isOutside call.ClassesHeld a store = false

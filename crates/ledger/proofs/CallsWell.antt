@@ -33,7 +33,7 @@ module _ (E : Engine) (laws : Laws E) where
     unfolding answer
     keeps-well l w (refuses k h e) other = rw e w
     keeps-well l w (cuts {asked = asked} t e) other = take-well (asked .size) l w
-    keeps-well l w (merges n before after b e) other =
+    keeps-well l w (merges n before after b p e) other =
         rw e record { lined = merge-lined E size count l b (w .lined); kept = merge-kept E laws l b (w .kept) }
     keeps-well l w resets other = absurd (other refl)
     keeps-well l w asks other = w
@@ -49,7 +49,7 @@ module _ (E : Engine) (laws : Laws E) where
         go : {c : Call} → CallCase E size count l c → WellFormed E size count (answer E size count c l .1)
         go (refuses k h e) = rw e w
         go (cuts {asked = asked} t e) = take-well size count (asked .size) l w
-        go (merges n before after b e) =
+        go (merges n before after b p e) =
             rw e record { lined = merge-lined E size count l b (w .lined); kept = merge-kept E laws l b (w .kept) }
         go resets = setup-well
         go asks = w

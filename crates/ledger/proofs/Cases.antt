@@ -8,7 +8,8 @@ use mathlib.Core.List.{List, []}
 use lib.ListN.{length}
 use Rattle.basics.specs.Sum.{tally}
 use Rattle.basics.proofs.Clash.{clash}
-use Rattle.basics.proofs.Decided.{Below, below, beyond, below?}
+use mathlib.Core.Logic.{_≢_}
+use Rattle.basics.proofs.Decided.{Below, below, beyond, below?, Same, same, differ, same?}
 use Rattle.ledger.specs.Ledger.{Region, live, free, len, find, granted, done, length-is, refused, Engine, Ledger}
 use Rattle.ledger.specs.Ledger.{spares, cut, merge, take, grantTop, grant, handBack, giveBack, sizeOf, lengthAt}
 use Rattle.ledger.specs.Calls.{spanOf, handsBack}
@@ -61,22 +62,29 @@ module _ (E : Engine) where
     serves : Serving s l → TakeCase s l
 
   -- ---- hand back and the size query
-  -- the record is live, or it is not
-  pub data LiveCase (r : ℕ) (l : Ledger (E .Index)) : Type 0 where
-    is-live : (n : ℕ) (before after : List Region) → Between before (live n r) after (l .line)
-        → handBack E r l ≡ (done, merge E before n r after l) → sizeOf r l ≡ length-is n → LiveCase r l
-    not-live : ¬ Live r l → handBack E r l ≡ (refused 5, l) → sizeOf r l ≡ refused 5 → LiveCase r l
+  -- the record is live and starts at that offset, or it is live and starts elsewhere, or it is not live
+  pub data LiveCase (o r : ℕ) (l : Ledger (E .Index)) : Type 0 where
+    is-live : (n : ℕ) (before after : List Region) → Between before (live n r) after (l .line) → tally len before ≡ o
+        → handBack E o r l ≡ (done, merge E before n r after l) → sizeOf o r l ≡ length-is n → LiveCase o r l
+    is-elsewhere : (n : ℕ) (before after : List Region) → Between before (live n r) after (l .line) → tally len before ≢ o
+        → handBack E o r l ≡ (refused 8, l) → sizeOf o r l ≡ refused 8 → LiveCase o r l
+    not-live : ¬ Live r l → handBack E o r l ≡ (refused 5, l) → sizeOf o r l ≡ refused 5 → LiveCase o r l
 
-  pub live-case : {size count : ℕ} {l : Ledger (E .Index)} → WellFormed E size count l → (r : ℕ) → LiveCase r l
+  pub live-case : {size count : ℕ} {l : Ledger (E .Index)} → WellFormed E size count l → (o r : ℕ) → LiveCase o r l
   unfolding handBack giveBack sizeOf lengthAt
-  live-case {l = l} w r = go (found? r (l .line))
+  live-case {l = l} w o r = go (found? r (l .line))
     where
-      go : Found r [] (l .line) → LiveCase r l
+      by-place : (n q : ℕ) (before after : List Region) → find r [] (l .line) ≡ some record { before = before; here = live n q; after = after }
+          → Between before (live n q) after (l .line) → q ≡ r → Same (tally len before) o → LiveCase o r l
+      by-place n q before after m b e (same p f) = is-live n before after (rw e at b) p (rw (m, f, e)) (rw (m, f))
+      by-place n q before after m b e (differ p f) = is-elsewhere n before after (rw e at b) p (rw (m, f)) (rw (m, f))
+
+      go : Found r [] (l .line) → LiveCase o r l
       go (missing m z) = not-live (λ v. omega (arith, at-counted (v .2) r refl)) (rw m) (rw m)
       go (at before (free n q) after m b e z) =
           let free-not-live : (k : ℕ) → free n q ≡ live k r → ⊥ = λ k c. clash (cc) in
           not-live (λ v. free-not-live (v .0) (same-region (between-at b) (v .2) r e refl (once-in-line (w .lined) r))) (rw m) (rw m)
-      go (at before (live n q) after m b e z) = is-live n before after (rw e at b) (rw (m, e)) (rw m)
+      go (at before (live n q) after m b e z) = by-place n q before after m b e (same? (tally len before) o)
 
   -- the hand-back of a region that is live at this offset
   pub record Held (n r o : ℕ) (l : Ledger (E .Index)) : Type 0 where
@@ -87,14 +95,15 @@ module _ (E : Engine) where
     pub outcome : handsBack E (spanOf o r) l ≡ (done, merge E before n r after l)
 
   pub held : {size count n r o : ℕ} {l : Ledger (E .Index)} → WellFormed E size count l → At (live n r) o (l .line) → Held n r o l
-  held {n = n} {r} {o} {l} w a = go (live-case w r)
+  held {n = n} {r} {o} {l} w a = go (live-case w o r)
     where
-      go : LiveCase r l → Held n r o l
+      go : LiveCase o r l → Held n r o l
       go (not-live h e q) = absurd (h (n, o, a))
-      go (is-live m before after b e q) =
+      go (is-elsewhere m before after b p e q) = absurd (p (same-place (between-at b) a r refl refl (once-in-line (w .lined) r) .1))
+      go (is-live m before after b p e q) =
           let both = same-place (between-at b) a r refl refl (once-in-line (w .lined) r) in
           let lengths : m ≡ n = cc (both .0) in
-          record { before = before; after = after; place = rw lengths at b; place-is = both .1; outcome = rw lengths at e }
+          record { before = before; after = after; place = rw lengths at b; place-is = p; outcome = rw lengths at e }
 
 -- ---- which case a take is, by the engine's laws
 module _ (E : Engine) (laws : Laws E) where

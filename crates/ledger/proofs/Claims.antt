@@ -11,7 +11,8 @@ use Rattle.ledger.proofs.Returns.{the-return}
 use Rattle.ledger.proofs.Reached.{setup-reached, call-reached}
 use Rattle.ledger.proofs.Reached.{fresh-line, fresh-spares, fresh-pile, reset-is-fresh}
 use Rattle.ledger.proofs.Refusals.{granted-or-refused, not-both, none-reaches-exactly, live-exactly, size-told}
-use Rattle.ledger.proofs.Refusals.{refused-exactly, refusal-3, refusal-4, refusal-5, size-refusal-5, live-below, no-other, refused-same}
+use Rattle.ledger.proofs.Refusals.{refused-exactly, refusal-3, refusal-4, refusal-5, size-refusal-5, refusal-8, size-refusal-8, live-below}
+use Rattle.ledger.proofs.Refusals.{no-other, refused-same}
 use Rattle.ledger.proofs.Figures.{number-tells, figures-of-0, figures-all}
 use Rattle.ledger.proofs.LiveAtMost.{live-at-most}
 use Rattle.ledger.proofs.History.{history-sum, history-live, report-total}
@@ -59,6 +60,8 @@ engine-claims E laws size count small two = record {
   refusal-4 = refusal-4 E laws size count small;
   refusal-5 = refusal-5 E laws size count;
   size-refusal-5 = size-refusal-5 E laws size count;
+  refusal-8 = refusal-8 E laws size count;
+  size-refusal-8 = size-refusal-8 E laws size count;
   live-below = live-below E laws size count;
   no-other = no-other E laws size count;
   refused-same = refused-same E laws size count;

@@ -52,6 +52,6 @@ module _ (size count : ℕ) where
       go : {c : Call} → CallCase by-class size count l c → length (figuresOf c (answer by-class size count c l .0)) ≡ figureCount c
       go (refuses {c = c} k h e) = rw (e, length-replicate {A = ℕ} (figureCount c) 0)
       go (cuts t e) = rw e
-      go (merges n before after b e) = rw e
+      go (merges n before after b p e) = rw e
       go resets = refl
       go (asks {q = q}) = told-figures size count q l w

@@ -11,7 +11,7 @@ use lib.Seq.{drop-cons}
 use Rattle.basics.specs.Sum.{tally}
 use Rattle.basics.proofs.Clash.{clash}
 use Rattle.basics.proofs.Sums.{tally-reverseAux}
-use Rattle.ledger.specs.Calls.{end, Call, answer}
+use Rattle.ledger.specs.Calls.{spanOf, end, Call, answer}
 use Rattle.ledger.specs.WellFormed.{WellFormed}
 use Rattle.ledger.specs.Spans.{At, first, Disjoint, AllLeave}
 use Rattle.ledger.specs.Claims.{Grant, Remainder, nothing-left, next-record}
@@ -24,7 +24,7 @@ use Rattle.ledger.proofs.Stays.{calls-leave}
 
 module _ (E : Engine) (laws : Laws E) where
   -- where a cut is made the live region stands
-  cut-at : (s k : ℕ) (before after : List Region) (n r : ℕ) (l : Ledger (E .Index))
+  pub cut-at : (s k : ℕ) (before after : List Region) (n r : ℕ) (l : Ledger (E .Index))
       → At (live s r) (tally len before) (cut E s k before n r after l .line)
   unfolding cut
   cut-at s zero before after n r l = at-behind before first (omega arith)
@@ -98,11 +98,11 @@ module _ (E : Engine) (laws : Laws E) where
 
   module _ (size count : ℕ) (two : 2 ≤ count) where
     pub grant-lasts : (s o r : ℕ) (l : Ledger (E .Index)) → WellFormed E size count l → take E s l .0 ≡ granted o r
-        → (cs : List Call) → AllLeave r cs → At (live s r) o (end (answer E size count) cs (take E s l .1) .line)
+        → (cs : List Call) → AllLeave (spanOf o r) cs → At (live s r) o (end (answer E size count) cs (take E s l .1) .line)
     grant-lasts s o r l w g cs h =
         calls-leave E laws size count two cs s r o (take E s l .1) (take-well E laws size count s l w) h (the-grant size count s o r l w g .is-live)
 
     pub grant-stays-alone : (s o r : ℕ) (l : Ledger (E .Index)) → WellFormed E size count l → take E s l .0 ≡ granted o r
-        → (cs : List Call) → AllLeave r cs
+        → (cs : List Call) → AllLeave (spanOf o r) cs
         → (n q p : ℕ) → At (live n q) p (end (answer E size count) cs (take E s l .1) .line) → q ≢ r → Disjoint o s p n
     grant-stays-alone s o r l w g cs h n q p a different = at-disjoint (grant-lasts s o r l w g cs h) a (λ e. different (sym e))

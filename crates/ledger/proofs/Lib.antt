@@ -22,6 +22,7 @@ pub mod Spans
 pub mod Grants
 pub mod Returns
 pub mod ReportRule
+pub mod Strikes
 pub mod History
 pub mod Undo
 pub mod Stretch

@@ -56,7 +56,7 @@ module _ (E : Engine) (laws : Laws E) where
             rw (t .outcome)
             (cut-at-most size count s (t .n - s) (t .n) (t .r) (t .before) (t .after) l (t .two-spare)
             (rw (t .outcome) at (take-well E laws size count s l w)))
-        go (merges n before after b e) = rw e (omega (arith, merge-takes E liveOne (λ m p. refl) l b))
+        go (merges n before after b p e) = rw e (omega (arith, merge-takes E liveOne (λ m p. refl) l b))
         go resets = omega arith
         go asks = h
 

@@ -12,15 +12,16 @@ use Rattle.basics.proofs.Clash.{clash}
 use Rattle.small_float.specs.Class.{down}
 use Rattle.basics.proofs.Decided.{Same, same, differ, same?, Below, below, beyond, below?}
 use Rattle.ledger.specs.Ledger.{Region, live, free, len, Stacks, onTop, Answer, granted, done, refused}
-use Rattle.ledger.specs.Calls.{Request, Token, Question, SizeOf, Call, Take, HandBack, Reset, Ask, takes, hands-back, event}
+use Rattle.ledger.specs.Calls.{Request, Token, Question, SizeOf, Call, Take, HandBack, Reset, Ask, takes, hands-back, spanOf, event}
 use Rattle.ledger.specs.Spans.{At, first, later, FreeIn, Among, Disjoint, Leaves, AllLeave}
-use Rattle.ledger.specs.History.{Span, strike, note, liveOne}
+use Rattle.ledger.specs.History.{Span, note, liveOne}
 use Rattle.ledger.specs.Stretch.{Stretch, ended, grants, returns, refuses, asks}
-use Rattle.ledger.specs.Claims.{CanRefuse, too-few-spares, none-reaches, not-live, unknown}
+use Rattle.ledger.specs.Claims.{CanRefuse, too-few-spares, none-reaches, not-live, elsewhere, unknown, unknown-there}
 use Rattle.ledger.specs.Claims.{NoneOrFree, none-there, one-there, Remainder, nothing-left, next-record, OnTop}
 use Rattle.ledger.specs.Meanings.{liveRecords, Inside, Meanings}
 use Rattle.ledger.proofs.Places.{Where, here, further, where?, at-none, at-front, at-exactly, split}
 use Rattle.ledger.proofs.Numbers.{length-numbersFrom, numbers-each}
+use Rattle.ledger.proofs.Strikes.{NoneNamed, strikes-one, strikes-no-other}
 
 -- ---- where a region stands
 free-in-exactly : (n : ℕ) (line : List Region)
@@ -56,34 +57,35 @@ apart-by-address o n p m h k none = go (below? o p)
       | beyond b f ↦ inr b
     ]
 
--- ---- calls that leave r
--- c is neither a hand-back of r nor a reset
-abbrev Spares : ℕ → Call → Type 0
-Spares r c = ((span : Token) → c ≡ HandBack span → span .number ≢ r) × (c ≢ Reset)
+-- ---- calls that leave a span
+-- c is neither the hand-back of it nor a reset
+abbrev Spares : Token → Call → Type 0
+Spares mine c = (c ≢ HandBack mine) × (c ≢ Reset)
 
-leaves-exactly : (r : ℕ) (c : Call) → Leaves r c ↔ Spares r c
-leaves-exactly r (Take asked) = (λ h. (λ span e. clash (cc), λ e. clash (cc)), λ h. tt)
-leaves-exactly r (HandBack q) = (
-  λ h. (λ span e. let it-is : q ≡ span = cc in rw it-is at h, λ e. clash (cc)),
-  λ h. h .0 q refl,
+leaves-exactly : (mine : Token) (c : Call) → Leaves mine c ↔ Spares mine c
+leaves-exactly mine (Take asked) = (λ h. (λ e. clash (cc), λ e. clash (cc)), λ h. tt)
+leaves-exactly mine (HandBack span) = (
+  λ h. (λ e. let it-is : span ≡ mine = cc in h it-is, λ e. clash (cc)),
+  λ h e. h .0 (ap HandBack e),
 )
-leaves-exactly r Reset = (λ h. absurd h, λ h. h .1 refl)
-leaves-exactly r (Ask q) = (λ h. (λ span e. clash (cc), λ e. clash (cc)), λ h. tt)
+leaves-exactly mine Reset = (λ h. absurd h, λ h. h .1 refl)
+leaves-exactly mine (Ask q) = (λ h. (λ e. clash (cc), λ e. clash (cc)), λ h. tt)
 
-abbrev EachLeaves : ℕ → List Call → Type 0
-EachLeaves r cs = (before after : List Call) (c : Call) → cs ≡ before ++ (c ∷ after) → Spares r c
+abbrev EachLeaves : Token → List Call → Type 0
+EachLeaves mine cs = (before after : List Call) (c : Call) → cs ≡ before ++ (c ∷ after) → Spares mine c
 
-each-leaves : (r : ℕ) (cs : List Call) → AllLeave r cs → EachLeaves r cs
-each-leaves r [] h [] after c e = clash (cc)
-each-leaves r [] h (b ∷ before) after c e = clash (cc)
-each-leaves r (x ∷ cs) h [] after c e = let it-is : x ≡ c = cc in subst (Spares r) it-is (leaves-exactly r x .0 (h .0))
-each-leaves r (x ∷ cs) h (b ∷ before) after c e = let rest : cs ≡ before ++ (c ∷ after) = cc in each-leaves r cs (h .1) before after c rest
+each-leaves : (mine : Token) (cs : List Call) → AllLeave mine cs → EachLeaves mine cs
+each-leaves mine [] h [] after c e = clash (cc)
+each-leaves mine [] h (b ∷ before) after c e = clash (cc)
+each-leaves mine (x ∷ cs) h [] after c e = let it-is : x ≡ c = cc in subst (Spares mine) it-is (leaves-exactly mine x .0 (h .0))
+each-leaves mine (x ∷ cs) h (b ∷ before) after c e =
+    let rest : cs ≡ before ++ (c ∷ after) = cc in each-leaves mine cs (h .1) before after c rest
 
-all-leave : (r : ℕ) (cs : List Call) → EachLeaves r cs → AllLeave r cs
-all-leave r [] h = tt
-all-leave r (x ∷ cs) h = (
-  leaves-exactly r x .1 (h [] cs x refl),
-  all-leave r cs (λ before after c e. h (x ∷ before) after c (ap {B = List Call} (λ xs. x ∷ xs) e)),
+all-leave : (mine : Token) (cs : List Call) → EachLeaves mine cs → AllLeave mine cs
+all-leave mine [] h = tt
+all-leave mine (x ∷ cs) h = (
+  leaves-exactly mine x .1 (h [] cs x refl),
+  all-leave mine cs (λ before after c e. h (x ∷ before) after c (ap {B = List Call} (λ xs. x ∷ xs) e)),
 )
 
 -- ---- a stretch
@@ -155,17 +157,20 @@ of-take : {asked : Request} {k : ℕ} → CanRefuse (Take asked) k → (k ≡ 3)
 of-take too-few-spares = inl refl
 of-take none-reaches = inr refl
 
-of-hand-back : {span : Token} {k : ℕ} → CanRefuse (HandBack span) k → k ≡ 5
-of-hand-back not-live = refl
+of-hand-back : {span : Token} {k : ℕ} → CanRefuse (HandBack span) k → (k ≡ 5) ⊎ (k ≡ 8)
+of-hand-back not-live = inl refl
+of-hand-back elsewhere = inr refl
 
-of-size : {span : Token} {k : ℕ} → CanRefuse (Ask (SizeOf span)) k → k ≡ 5
-of-size unknown = refl
+of-size : {span : Token} {k : ℕ} → CanRefuse (Ask (SizeOf span)) k → (k ≡ 5) ⊎ (k ≡ 8)
+of-size unknown = inl refl
+of-size unknown-there = inr refl
 
 take-refusals : (asked : Request) (k : ℕ) → CanRefuse (Take asked) k ↔ ((k ≡ 3) ⊎ (k ≡ 4))
 take-refusals asked k = (of-take, elim [ inl e ↦ rw e too-few-spares | inr e ↦ rw e none-reaches ])
 
 no-refusals : {q : Question} {k : ℕ} → CanRefuse (Ask q) k → (span : Token) × (q ≡ SizeOf span)
 no-refusals (unknown {span = span}) = (span, refl)
+no-refusals (unknown-there {span = span}) = (span, refl)
 
 -- ---- the history
 refusal-notes-nothing : (c : Call) (k : ℕ) (out : List Span) → note (event c (refused k)) out ≡ out
@@ -179,51 +184,19 @@ question-notes-nothing : (q : Question) (a : Answer) (out : List Span) → note 
 unfolding note
 question-notes-nothing q a out = refl
 
--- no span of the list has this record; then none of those behind the first has
-abbrev NoneHas : ℕ → List Span → Type 0
-NoneHas r out = (xs ys : List Span) (x : Span) → out ≡ xs ++ (x ∷ ys) → x .number ≢ r
-
-not-behind : {r : ℕ} (x : Span) (out : List Span) → NoneHas r (x ∷ out) → NoneHas r out
-not-behind x out h xs ys y e = h (x ∷ xs) ys y (ap {B = List Span} (λ zs. x ∷ zs) e)
-
-strikes-one : (n r : ℕ) (front back : List Span) → NoneHas r front
-    → strike r (front ++ (record { size = n; number = r } ∷ back)) ≡ front ++ back
-unfolding strike
-strikes-one n r [] back h = go (same? r r)
-  where
-    go : Same r r → cond (eqb r r) back (record { size = n; number = r } ∷ strike r back) ≡ back
-    go (same p e) = rw e
-    go (differ p e) = absurd (p refl)
-strikes-one n r (x ∷ front) back h = go (same? (x .number) r) (strikes-one n r front back (not-behind x front h))
-  where
-    rest : List Span
-    rest = front ++ (record { size = n; number = r } ∷ back)
-
-    go : Same (x .number) r → strike r rest ≡ front ++ back → cond (eqb (x .number) r) rest (x ∷ strike r rest) ≡ x ∷ (front ++ back)
-    go (same p e) behind = absurd (h [] front x refl p)
-    go (differ p e) behind = rw (e, behind)
-
-strikes-no-other : (r : ℕ) (out : List Span) → NoneHas r out → strike r out ≡ out
-unfolding strike
-strikes-no-other r [] h = refl
-strikes-no-other r (x ∷ out) h = go (same? (x .number) r) (strikes-no-other r out (not-behind x out h))
-  where
-    go : Same (x .number) r → strike r out ≡ out → cond (eqb (x .number) r) out (x ∷ strike r out) ≡ x ∷ out
-    go (same p e) behind = absurd (h [] out x refl p)
-    go (differ p e) behind = rw (e, behind)
-
-grant-notes-one : (s o r : ℕ) (out : List Span) → note (event (takes s) (granted o r)) out ≡ record { size = s; number = r } ∷ out
+grant-notes-one : (s o r : ℕ) (out : List Span)
+    → note (event (takes s) (granted o r)) out ≡ record { offset = o; size = s; number = r } ∷ out
 unfolding note
 grant-notes-one s o r out = refl
 
-return-strikes-one : (n o r : ℕ) (front back : List Span) → NoneHas r front
-    → note (event (hands-back o r) done) (front ++ (record { size = n; number = r } ∷ back)) ≡ front ++ back
+return-strikes-one : (n o r : ℕ) (front back : List Span) → NoneNamed (spanOf o r) front
+    → note (event (hands-back o r) done) (front ++ (record { offset = o; size = n; number = r } ∷ back)) ≡ front ++ back
 unfolding note
-return-strikes-one n o r front back h = strikes-one n r front back h
+return-strikes-one n o r front back h = strikes-one n o r front back h
 
-return-strikes-no-other : (o r : ℕ) (out : List Span) → NoneHas r out → note (event (hands-back o r) done) out ≡ out
+return-strikes-no-other : (o r : ℕ) (out : List Span) → NoneNamed (spanOf o r) out → note (event (hands-back o r) done) out ≡ out
 unfolding note
-return-strikes-no-other o r out h = strikes-no-other r out h
+return-strikes-no-other o r out h = strikes-no-other (spanOf o r) out h
 
 reset-strikes-all : (out : List Span) → note (event Reset done) out ≡ []
 unfolding note
@@ -237,8 +210,8 @@ meanings = record {
   no-empty-one-within = no-empty-one-within;
   disjoint-both-ways = disjoint-both-ways;
   apart-by-address = apart-by-address;
-  leaves-exactly = leaves-exactly;
-  all-leave-exactly = λ r cs. (each-leaves r cs, all-leave r cs);
+  leaves-exactly = λ o r. leaves-exactly (spanOf o r);
+  all-leave-exactly = λ o r cs. (each-leaves (spanOf o r) cs, all-leave (spanOf o r) cs);
   may-grant = λ own es asked o r h. grants h;
   may-return = λ own es span h. returns h;
   may-refuse = λ own es c k h. refuses h;
@@ -252,8 +225,8 @@ meanings = record {
   live-counted = live-counted;
   live-records = λ r line. (listed-live r line, λ x. live-listed r line (x .0) (x .1) (x .2));
   take-refusals = take-refusals;
-  hand-back-refusals = λ span k. (of-hand-back, λ e. rw e not-live);
-  size-refusals = λ span k. (of-size, λ e. rw e unknown);
+  hand-back-refusals = λ span k. (of-hand-back, elim [ inl e ↦ rw e not-live | inr e ↦ rw e elsewhere ]);
+  size-refusals = λ span k. (of-size, elim [ inl e ↦ rw e unknown | inr e ↦ rw e unknown-there ]);
   no-refusals = λ q k. no-refusals;
   reset-refusals = λ k. elim [ ];
   numbers-many = λ r n. length-numbersFrom n r;

@@ -10,9 +10,9 @@ use Rattle.ledger.specs.Ledger.{Engine, Ledger, Stacks, by-class, refuse
 use Rattle.ledger.specs.Calls.{Question, SizeOf, Report, FullReport, figuresTold, Token, Ask, spanOf, QuestionsDiffer, told}
 use Rattle.ledger.specs.Figures.{inARow, figuresOf}
 use Rattle.ledger.specs.WellFormed.{WellFormed}
-use Rattle.ledger.specs.Claims.{CanRefuse, unknown}
+use Rattle.ledger.specs.Claims.{CanRefuse, unknown, unknown-there}
 use Rattle.ledger.proofs.Numbers.{length-numbersFrom}
-use Rattle.ledger.proofs.Cases.{LiveCase, is-live, not-live, live-case}
+use Rattle.ledger.proofs.Cases.{LiveCase, is-live, is-elsewhere, not-live, live-case}
 
 -- ---- which questions there are
 -- the span that a question names, any where it names none; and a number for each of those
@@ -40,11 +40,12 @@ module _ (E : Engine) (size count : ℕ) where
   pub told-refused : (q : Question) (k : ℕ) (l : Ledger (E .Index)) → WellFormed E size count l → told E size count q l ≡ refused k
       → CanRefuse (Ask q) k
   unfolding told
-  told-refused (SizeOf span) k l w x = go (live-case E w (span .number))
+  told-refused (SizeOf span) k l w x = go (live-case E w (span .offset) (span .number))
     where
-      go : LiveCase E (span .number) l → CanRefuse (Ask (SizeOf span)) k
+      go : LiveCase E (span .offset) (span .number) l → CanRefuse (Ask (SizeOf span)) k
       go (not-live h e q) = let number : 5 ≡ k = cc in subst (CanRefuse (Ask (SizeOf span))) number unknown
-      go (is-live n before after b e q) = clash (cc)
+      go (is-elsewhere n before after b p e q) = let number : 8 ≡ k = cc in subst (CanRefuse (Ask (SizeOf span))) number unknown-there
+      go (is-live n before after b p e q) = clash (cc)
   told-refused Report k l w x = clash (cc)
   told-refused FullReport k l w x = clash (cc)
 
@@ -57,11 +58,12 @@ module _ (size count : ℕ) where
   pub told-figures : (q : Question) (l : Ledger Stacks) → WellFormed by-class size count l
       → length (figuresOf (Ask q) (told by-class size count q l)) ≡ figuresTold q
   unfolding told fullOf
-  told-figures (SizeOf span) l w = go (live-case by-class w (span .number))
+  told-figures (SizeOf span) l w = go (live-case by-class w (span .offset) (span .number))
     where
-      go : LiveCase by-class (span .number) l → length (figuresOf (Ask (SizeOf span)) (sizeOf (span .number) l)) ≡ 1
+      go : LiveCase by-class (span .offset) (span .number) l → length (figuresOf (Ask (SizeOf span)) (sizeOf (span .offset) (span .number) l)) ≡ 1
       go (not-live h e q) = rw q
-      go (is-live n before after b e q) = rw q
+      go (is-elsewhere n before after b p e q) = rw q
+      go (is-live n before after b p e q) = rw q
   told-figures Report l w = refl
   told-figures FullReport l w = omega (
     arith,

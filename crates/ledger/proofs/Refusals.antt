@@ -1,7 +1,7 @@
 -- When a call on a ledger in order is refused, with which number, and that it then changes nothing. Assumes nothing.
 use Rattle.ledger.specs.Ledger.{Engine, Ledger, take, handBack, sizeOf, Region, len, live, free, length-is, refused}
 use Rattle.ledger.specs.Laws.{Laws}
-use mathlib.Core.Path.{_≡_, refl, ap, _∙_, subst}
+use mathlib.Core.Path.{_≡_, refl, sym, ap, _∙_, subst}
 use Prim.Native.Nat.{ℕ, _^_, _≤_, _<_}
 use native.Mathlib.Omega.{arith}
 use mathlib.Core.Logic.{_↔_, _⊎_, inl, inr}
@@ -14,10 +14,11 @@ use Rattle.basics.proofs.Decided.{Below, below, beyond, below?}
 use Rattle.ledger.specs.Calls.{answer, Call}
 use Rattle.ledger.specs.WellFormed.{WellFormed}
 use Rattle.ledger.specs.Spans.{At}
-use Rattle.ledger.specs.Claims.{Granted, Refused, NoneReaches, Live, CanRefuse}
-use Rattle.ledger.proofs.Places.{between-at, at-front, split, same-region}
+use Rattle.ledger.specs.Claims.{Granted, Refused, NoneReaches, Live, LiveElsewhere, CanRefuse}
+use Rattle.ledger.proofs.Places.{Between, between-at, at-front, split, same-region, same-place}
 use Rattle.ledger.proofs.Records.{once-in-line, record-below}
-use Rattle.ledger.proofs.Cases.{TakeCase, few-spares, no-region, serves, take-case, LiveCase, is-live, not-live, live-case}
+use Rattle.ledger.proofs.Cases.{TakeCase, few-spares, no-region, serves, take-case}
+use Rattle.ledger.proofs.Cases.{LiveCase, is-live, is-elsewhere, not-live, live-case}
 use Rattle.ledger.proofs.Outcomes.{CallCase, refuses, cuts, merges, resets, asks, call-case}
 use Rattle.ledger.proofs.Questions.{told-refused}
 
@@ -87,29 +88,53 @@ module _ (E : Engine) (laws : Laws E) where
       λ t. (t .0, tally len (t .1), rw (t .3) (at-front (t .1) (live (t .0) r) (t .2))),
     )
 
-    pub size-told : (n r o : ℕ) (l : Ledger (E .Index)) → WellFormed E size count l → At (live n r) o (l .line) → sizeOf r l ≡ length-is n
-    size-told n r o l w a = go (live-case E w r)
+    pub size-told : (n r o : ℕ) (l : Ledger (E .Index)) → WellFormed E size count l → At (live n r) o (l .line) → sizeOf o r l ≡ length-is n
+    size-told n r o l w a = go (live-case E w o r)
       where
-        go : LiveCase E r l → sizeOf r l ≡ length-is n
+        go : LiveCase E o r l → sizeOf o r l ≡ length-is n
         go (not-live h e q) = absurd (h (n, o, a))
-        go (is-live m before after b e q) =
+        go (is-elsewhere m before after b p e q) = absurd (p (same-place (between-at b) a r refl refl (once-in-line (w .lined) r) .1))
+        go (is-live m before after b p e q) =
             let both : live m r ≡ live n r = same-region (between-at b) a r refl refl (once-in-line (w .lined) r) in
             let lengths : m ≡ n = cc in
             q ∙ ap length-is lengths
 
-    pub refusal-5 : (o r : ℕ) (l : Ledger (E .Index)) → WellFormed E size count l → (handBack E r l .0 ≡ refused 5) ↔ (¬ Live r l)
-    refusal-5 o r l w = go (live-case E w r)
+    pub refusal-5 : (o r : ℕ) (l : Ledger (E .Index)) → WellFormed E size count l → (handBack E o r l .0 ≡ refused 5) ↔ (¬ Live r l)
+    refusal-5 o r l w = go (live-case E w o r)
       where
-        go : LiveCase E r l → (handBack E r l .0 ≡ refused 5) ↔ (¬ Live r l)
+        go : LiveCase E o r l → (handBack E o r l .0 ≡ refused 5) ↔ (¬ Live r l)
         go (not-live h e q) = (λ x. h, λ x. ap (λ a. a .0) e)
-        go (is-live n before after b e q) = (λ x. clash (cc), λ x. absurd (x (n, _, between-at b)))
+        go (is-elsewhere n before after b p e q) = (λ x. clash (cc), λ x. absurd (x (n, _, between-at b)))
+        go (is-live n before after b p e q) = (λ x. clash (cc), λ x. absurd (x (n, _, between-at b)))
 
-    pub size-refusal-5 : (r : ℕ) (l : Ledger (E .Index)) → WellFormed E size count l → (sizeOf r l ≡ refused 5) ↔ (¬ Live r l)
-    size-refusal-5 r l w = go (live-case E w r)
+    pub size-refusal-5 : (o r : ℕ) (l : Ledger (E .Index)) → WellFormed E size count l → (sizeOf o r l ≡ refused 5) ↔ (¬ Live r l)
+    size-refusal-5 o r l w = go (live-case E w o r)
       where
-        go : LiveCase E r l → (sizeOf r l ≡ refused 5) ↔ (¬ Live r l)
+        go : LiveCase E o r l → (sizeOf o r l ≡ refused 5) ↔ (¬ Live r l)
         go (not-live h e q) = (λ x. h, λ x. q)
-        go (is-live n before after b e q) = (λ x. clash (cc), λ x. absurd (x (n, _, between-at b)))
+        go (is-elsewhere n before after b p e q) = (λ x. clash (cc), λ x. absurd (x (n, _, between-at b)))
+        go (is-live n before after b p e q) = (λ x. clash (cc), λ x. absurd (x (n, _, between-at b)))
+
+    -- one record starts at one place
+    one-place : {o r n : ℕ} {before after : List Region} {l : Ledger (E .Index)} → WellFormed E size count l
+        → Between before (live n r) after (l .line) → tally len before ≡ o → ¬ LiveElsewhere o r l
+    one-place {r = r} w b p x = x .3 (sym (same-place (between-at b) (x .2) r refl refl (once-in-line (w .lined) r) .1) ∙ p)
+
+    pub refusal-8 : (o r : ℕ) (l : Ledger (E .Index)) → WellFormed E size count l → (handBack E o r l .0 ≡ refused 8) ↔ LiveElsewhere o r l
+    refusal-8 o r l w = go (live-case E w o r)
+      where
+        go : LiveCase E o r l → (handBack E o r l .0 ≡ refused 8) ↔ LiveElsewhere o r l
+        go (not-live h e q) = (λ x. clash (cc), λ x. absurd (h (x .0, x .1, x .2)))
+        go (is-elsewhere n before after b p e q) = (λ x. (n, tally len before, between-at b, p), λ x. ap (λ a. a .0) e)
+        go (is-live n before after b p e q) = (λ x. clash (cc), λ x. absurd (one-place w b p x))
+
+    pub size-refusal-8 : (o r : ℕ) (l : Ledger (E .Index)) → WellFormed E size count l → (sizeOf o r l ≡ refused 8) ↔ LiveElsewhere o r l
+    size-refusal-8 o r l w = go (live-case E w o r)
+      where
+        go : LiveCase E o r l → (sizeOf o r l ≡ refused 8) ↔ LiveElsewhere o r l
+        go (not-live h e q) = (λ x. clash (cc), λ x. absurd (h (x .0, x .1, x .2)))
+        go (is-elsewhere n before after b p e q) = (λ x. (n, tally len before, between-at b, p), λ x. q)
+        go (is-live n before after b p e q) = (λ x. clash (cc), λ x. absurd (one-place w b p x))
 
     pub live-below : (r : ℕ) (l : Ledger (E .Index)) → WellFormed E size count l → Live r l → r < count
     live-below r l w h = record-below (w .lined) (h .2)
@@ -122,7 +147,7 @@ module _ (E : Engine) (laws : Laws E) where
         go : {c : Call} → answer E size count c l .0 ≡ refused k → CallCase E size count l c → CanRefuse c k
         go {c} x (refuses j h e) = let number : j ≡ k = cc in subst (CanRefuse c) number h
         go x (cuts t e) = clash (cc)
-        go x (merges n before after b e) = clash (cc)
+        go x (merges n before after b p e) = clash (cc)
         go x resets = clash (cc)
         go x (asks {q = q}) = told-refused E size count q k l w x
 
@@ -134,6 +159,6 @@ module _ (E : Engine) (laws : Laws E) where
         go : {c : Call} → answer E size count c l .0 ≡ refused k → CallCase E size count l c → answer E size count c l .1 ≡ l
         go x (refuses j h e) = ap (λ a. a .1) e
         go x (cuts t e) = clash (cc)
-        go x (merges n before after b e) = clash (cc)
+        go x (merges n before after b p e) = clash (cc)
         go x resets = clash (cc)
         go x asks = refl

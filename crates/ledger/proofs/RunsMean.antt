@@ -35,11 +35,11 @@ unfolding sizeIn spanIn spanAsked
 calls-mean = record {
   every-call = every-call;
   every-question = every-question;
-  every-span = λ span. (0, (span .number, refl));
+  every-span = λ span. (span .offset, (span .number, refl));
   one-size = λ s t e. ap sizeIn e;
   one-span = λ s t e. ap spanIn e;
   one-span-asked = λ s t e. ap spanAsked e;
-  one-record = λ o p r q e. ap (λ (span : Token). span .number) e;
+  one-pair = λ o p r q e. (ap (λ (span : Token). span .offset) e, ap (λ (span : Token). span .number) e);
   questions-differ = questions-differ;
 }
 

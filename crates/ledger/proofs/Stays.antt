@@ -1,7 +1,7 @@
--- A live region stays where it is, at its length, until its record is handed back or the store is reset. Assumes nothing.
+-- A live region stays where it is, at its length, until it is handed back by its offset and record or the store is reset. Assumes nothing.
 use Rattle.ledger.specs.Ledger.{Engine, Ledger, Side, cut, beside, merge, Region, live, free, len}
 use Rattle.ledger.specs.Laws.{Laws}
-use mathlib.Core.Path.{_≡_}
+use mathlib.Core.Path.{_≡_, refl, sym, _∙_}
 use Prim.Native.Nat.{ℕ, zero, suc, _+_, _-_, _≤_}
 use native.Mathlib.Omega.{arith}
 use mathlib.Core.Logic.{_≢_}
@@ -9,10 +9,11 @@ use mathlib.Core.List.{List, [], _∷_, reverseAux}
 use lib.ListN.{getD}
 use Rattle.basics.specs.Sum.{tally}
 use Rattle.basics.proofs.Clash.{clash}
-use Rattle.ledger.specs.Calls.{answer, end, Call}
+use Rattle.ledger.specs.Calls.{Token, spanOf, answer, end, Call}
 use Rattle.ledger.specs.WellFormed.{WellFormed}
 use Rattle.ledger.specs.Spans.{At, first, later, Leaves, AllLeave}
-use Rattle.ledger.proofs.Places.{Between, Where, here, further, where?, at-none, at-behind}
+use Rattle.ledger.proofs.Places.{Between, between-at, Where, here, further, where?, at-none, at-behind, same-place}
+use Rattle.ledger.proofs.Records.{once-in-line}
 use Rattle.ledger.proofs.KeptLine.{side-len}
 use Rattle.ledger.proofs.Outcomes.{CallCase, refuses, cuts, merges, resets, asks, call-case}
 use Rattle.ledger.proofs.CallsWell.{call-well}
@@ -111,19 +112,26 @@ module _ (E : Engine) (laws : Laws E) where
       go (behind p z c) = moved p z (where? c)
 
   module _ (size count : ℕ) (two : 2 ≤ count) where
-    pub call-leaves : (c : Call) (n r o : ℕ) (l : Ledger (E .Index)) → WellFormed E size count l → Leaves r c
+    pub call-leaves : (c : Call) (n r o : ℕ) (l : Ledger (E .Index)) → WellFormed E size count l → Leaves (spanOf o r) c
         → At (live n r) o (l .line) → At (live n r) o (answer E size count c l .1 .line)
     unfolding answer
     call-leaves c n r o l w h a = go h (call-case E laws size count w c)
       where
-        go : {c : Call} → Leaves r c → CallCase E size count l c → At (live n r) o (answer E size count c l .1 .line)
+        -- a hand-back of this record that is done is of the region that starts at its offset
+        its-span : (span : Token) {m : ℕ} {before after : List Region} → Between before (live m (span .number)) after (l .line)
+            → tally len before ≡ span .offset → span .number ≡ r → span ≡ spanOf o r
+        its-span span b p g =
+            let place = sym p ∙ same-place (between-at b) a r g refl (once-in-line (w .lined) r) .1 in
+            λ i. record { offset = place i; number = g i }
+
+        go : {c : Call} → Leaves (spanOf o r) c → CallCase E size count l c → At (live n r) o (answer E size count c l .1 .line)
         go h (refuses k m e) = rw e a
         go h (cuts {asked = asked} t e) = rw e (cut-leaves (asked .size) (t .n - asked .size) l (t .place) (omega (arith, t .long-enough)) a)
-        go h (merges m before after b e) = rw e (merge-leaves l b h a)
+        go h (merges {span = span} m before after b p e) = rw e (merge-leaves l b (λ g. h (its-span span b p g)) a)
         go h resets = absurd h
         go h asks = a
 
-    pub calls-leave : (cs : List Call) (n r o : ℕ) (l : Ledger (E .Index)) → WellFormed E size count l → AllLeave r cs
+    pub calls-leave : (cs : List Call) (n r o : ℕ) (l : Ledger (E .Index)) → WellFormed E size count l → AllLeave (spanOf o r) cs
         → At (live n r) o (l .line) → At (live n r) o (end (answer E size count) cs l .line)
     unfolding answer end
     calls-leave [] n r o l w h a = a

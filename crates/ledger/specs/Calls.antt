@@ -9,8 +9,9 @@ use Rattle.ledger.specs.Ledger.{Engine, Ledger, Answer, done, reported, 
 pub record Request : Type 0 where
   pub size : ℕ
 
--- how a caller names a span again
+-- how a caller names a span again: where it starts, and its record
 pub record Token : Type 0 where
+  pub offset : ℕ
   pub number : ℕ
 
 -- calls that change nothing
@@ -35,21 +36,21 @@ pub data Call : Type 0 where
 abbrev pub takes : (s : ℕ) → Call
 takes s = Take record { size = s }
 
--- the span that was granted at this offset under this record, named again: by its record alone
+-- the span that was granted at this offset under this record, named again
 abbrev pub spanOf : (o r : ℕ) → Token
-spanOf o r = record { number = r }
+spanOf o r = record { offset = o; number = r }
 
 abbrev pub hands-back : (o r : ℕ) → Call
 hands-back o r = HandBack (spanOf o r)
 
-abbrev pub asks-size : (r : ℕ) → Call
-asks-size r = Ask (SizeOf record { number = r })
+abbrev pub asks-size : (o r : ℕ) → Call
+asks-size o r = Ask (SizeOf (spanOf o r))
 
 -- no two questions that name no span are one
 abbrev pub QuestionsDiffer : Type 0
 QuestionsDiffer = Report ≢ FullReport
 
--- what a call holds, told from the other side: each is one of these, and no size, no span and no record that is asked for is lost.
+-- what a call holds, told from the other side: each is one of these, and no size, no offset and no record that it names is lost.
 -- proofs/RunsMean.antt makes it
 pub record CallsMean : Type 0 where
   pub every-call : (c : Call)
@@ -60,7 +61,7 @@ pub record CallsMean : Type 0 where
   pub one-size : (s t : ℕ) → takes s ≡ takes t → s ≡ t
   pub one-span : (s t : Token) → HandBack s ≡ HandBack t → s ≡ t
   pub one-span-asked : (s t : Token) → SizeOf s ≡ SizeOf t → s ≡ t
-  pub one-record : (o p r q : ℕ) → spanOf o r ≡ spanOf p q → r ≡ q
+  pub one-pair : (o p r q : ℕ) → spanOf o r ≡ spanOf p q → (o ≡ p) × (r ≡ q)
   pub questions-differ : QuestionsDiffer
 
 -- a call with its answer
@@ -73,15 +74,15 @@ callOf (event c a) = c
 abbrev pub answerOf : Event → Answer
 answerOf (event c a) = a
 
--- a span named again is handed back by its record
+-- a span named again is handed back by its offset and its record
 abbrev pub handsBack : (E : Engine) → Token → Ledger (E .Index) → Answer × Ledger (E .Index)
-handsBack E span l = handBack E (span .number) l
+handsBack E span l = handBack E (span .offset) (span .number) l
 
 -- a store set up with this size and this count of records, under this engine
 module _ (E : Engine) (size count : ℕ) where
   unfoldable pub told : Question → Ledger (E .Index) → Answer
   unfolding sizeOf report
-  told (SizeOf span) l = sizeOf (span .number) l
+  told (SizeOf span) l = sizeOf (span .offset) (span .number) l
   told Report l = reported (report E l .0) (report E l .1)
   told FullReport l = classes (fullReport E l)
 

@@ -37,12 +37,18 @@ NoneReaches E s l = (n : ℕ) → FreeIn n (l .line) → E .rank n < E .need s
 abbrev pub Live : {I : Type 0} → ℕ → Ledger I → Type 0
 Live r l = (n : ℕ) × (o : ℕ) × At (live n r) o (l .line)
 
+-- record r is live, and starts at another offset than o
+abbrev pub LiveElsewhere : {I : Type 0} → (o r : ℕ) → Ledger I → Type 0
+LiveElsewhere o r l = (n : ℕ) × (p : ℕ) × At (live n r) p (l .line) × (p ≢ o)
+
 -- the refusals that a ledger in order can give
 pub data CanRefuse : Call → ℕ → Type 0 where
   too-few-spares : {asked : Request} → CanRefuse (Take asked) 3
   none-reaches : {asked : Request} → CanRefuse (Take asked) 4
   not-live : {span : Token} → CanRefuse (HandBack span) 5
+  elsewhere : {span : Token} → CanRefuse (HandBack span) 8
   unknown : {span : Token} → CanRefuse (Ask (SizeOf span)) 5
+  unknown-there : {span : Token} → CanRefuse (Ask (SizeOf span)) 8
 
 -- "A remainder above 0 takes the next record of the pile": what is left of a region, and what is left of the pile
 pub data Remainder (left : ℕ) (pile : List ℕ) : List Region → List ℕ → Type 0 where
@@ -134,30 +140,33 @@ pub record EngineClaims (E : Engine) (size count : ℕ) : Type 0 where
   pub grant-alone : (s o r : ℕ) (l : Ledger (E .Index)) → WellFormed E size count l → take E s l .0 ≡ granted o r
       → (n q p : ℕ) → At (live n q) p (l .line) → Disjoint o s p n
   pub grant-lasts : (s o r : ℕ) (l : Ledger (E .Index)) → WellFormed E size count l → take E s l .0 ≡ granted o r
-      → (cs : List Call) → AllLeave r cs → At (live s r) o (end (answer E size count) cs (take E s l .1) .line)
+      → (cs : List Call) → AllLeave (spanOf o r) cs → At (live s r) o (end (answer E size count) cs (take E s l .1) .line)
   pub grant-stays-alone : (s o r : ℕ) (l : Ledger (E .Index)) → WellFormed E size count l → take E s l .0 ≡ granted o r
-      → (cs : List Call) → AllLeave r cs
+      → (cs : List Call) → AllLeave (spanOf o r) cs
       → (n q p : ℕ) → At (live n q) p (end (answer E size count) cs (take E s l .1) .line) → q ≢ r → Disjoint o s p n
   -- ---- a hand-back of a live region: what it merges with, where the merged region lies, which record it keeps, what goes onto the pile
   pub return : (n r o : ℕ) (l : Ledger (E .Index)) → WellFormed E size count l → At (live n r) o (l .line) → Return E n r o l
   -- ---- a record is live exactly if a live region of the line has it, and the size query tells its length
   pub live-exactly : (r : ℕ) (l : Ledger (E .Index))
       → Live r l ↔ ((n : ℕ) × (front : List Region) × (back : List Region) × (l .line ≡ front ++ (live n r ∷ back)))
-  pub size-told : (n r o : ℕ) (l : Ledger (E .Index)) → WellFormed E size count l → At (live n r) o (l .line) → sizeOf r l ≡ length-is n
+  pub size-told : (n r o : ℕ) (l : Ledger (E .Index)) → WellFormed E size count l → At (live n r) o (l .line) → sizeOf o r l ≡ length-is n
   -- ---- a take is granted or refused, never both, and that none reaches is that no free region does
   pub granted-or-refused : (s : ℕ) (l : Ledger (E .Index)) → WellFormed E size count l → Granted E s l ⊎ Refused E s l
   pub not-both : (s : ℕ) (l : Ledger (E .Index)) → Granted E s l → ¬ Refused E s l
   pub none-reaches-exactly : (s : ℕ) (l : Ledger (E .Index))
       → NoneReaches E s l ↔ (¬ ((n : ℕ) × (r : ℕ) × (o : ℕ) × At (free n r) o (l .line) × (E .need s ≤ E .rank n)))
   -- ---- "a take is refused exactly when one record or none is spare, or no free region's class reaches the request's", 3 before 4;
-  -- hand back and size query give 5 exactly if the record is not live, and a number at or above the count never is; no other refusal
+  -- hand back and size query give 5 exactly if the record is not live, and a number at or above the count never is; 8 "exactly if the record is live
+  -- but starts elsewhere"; no other refusal
   pub refused-exactly : (s : ℕ) (l : Ledger (E .Index)) → WellFormed E size count l
       → Refused E s l ↔ ((length (l .pile) ≤ 1) ⊎ NoneReaches E s l)
   pub refusal-3 : (s : ℕ) (l : Ledger (E .Index)) → WellFormed E size count l → (take E s l .0 ≡ refused 3) ↔ (length (l .pile) ≤ 1)
   pub refusal-4 : (s : ℕ) (l : Ledger (E .Index)) → WellFormed E size count l
       → (take E s l .0 ≡ refused 4) ↔ ((2 ≤ length (l .pile)) × NoneReaches E s l)
   pub refusal-5 : (o r : ℕ) (l : Ledger (E .Index)) → WellFormed E size count l → (handsBack E (spanOf o r) l .0 ≡ refused 5) ↔ (¬ Live r l)
-  pub size-refusal-5 : (r : ℕ) (l : Ledger (E .Index)) → WellFormed E size count l → (sizeOf r l ≡ refused 5) ↔ (¬ Live r l)
+  pub size-refusal-5 : (o r : ℕ) (l : Ledger (E .Index)) → WellFormed E size count l → (sizeOf o r l ≡ refused 5) ↔ (¬ Live r l)
+  pub refusal-8 : (o r : ℕ) (l : Ledger (E .Index)) → WellFormed E size count l → (handsBack E (spanOf o r) l .0 ≡ refused 8) ↔ LiveElsewhere o r l
+  pub size-refusal-8 : (o r : ℕ) (l : Ledger (E .Index)) → WellFormed E size count l → (sizeOf o r l ≡ refused 8) ↔ LiveElsewhere o r l
   pub live-below : (r : ℕ) (l : Ledger (E .Index)) → WellFormed E size count l → Live r l → r < count
   pub no-other : (c : Call) (k : ℕ) (l : Ledger (E .Index)) → WellFormed E size count l
       → answer E size count c l .0 ≡ refused k → CanRefuse c k
@@ -175,10 +184,10 @@ pub record EngineClaims (E : Engine) (size count : ℕ) : Type 0 where
   pub history-sum : (cs : List Call)
       → tally (λ (x : Span). x .size) (outAfter (log (answer E size count) cs (setup E size count)) [])
       + tally freeLen (end (answer E size count) cs (setup E size count) .line) ≡ size
-  -- the spans that are out by the history are the live regions, each with its length and record
-  pub history-live : (cs : List Call) (n r : ℕ)
-      → IsOut n r (outAfter (log (answer E size count) cs (setup E size count)) [])
-      ↔ ((o : ℕ) × At (live n r) o (end (answer E size count) cs (setup E size count) .line))
+  -- the spans that are out by the history are the live regions, each with its offset, length and record
+  pub history-live : (cs : List Call) (o n r : ℕ)
+      → IsOut o n r (outAfter (log (answer E size count) cs (setup E size count)) [])
+      ↔ At (live n r) o (end (answer E size count) cs (setup E size count) .line)
   -- ---- "A take of s is then granted exactly when a free region exists and s is at most that second number."
   pub report-rule : (s : ℕ) (l : Ledger (E .Index)) → WellFormed E size count l → 2 ≤ length (l .pile)
       → Granted E s l ↔ (((n : ℕ) × FreeIn n (l .line)) × (s ≤ report E l .1))

@@ -231,26 +231,28 @@ module _ (E : Engine) where
         pile = a .owed ++ (b .owed ++ l .pile);
       }
 
-  unfoldable pub giveBack : Ledger (E .Index) → Option Spot → Answer × Ledger (E .Index)
+  -- "refusal 8 is given exactly if the record is live but starts elsewhere; it comes after 5": the region starts where those before it end
+  unfoldable pub giveBack : ℕ → Ledger (E .Index) → Option Spot → Answer × Ledger (E .Index)
   unfolding merge
-  giveBack l none = (refused 5, l)
-  giveBack l (some z) = elim (z .here) [
-    | live n r ↦ (done, merge (z .before) n r (z .after) l)
+  giveBack o l none = (refused 5, l)
+  giveBack o l (some z) = elim (z .here) [
+    | live n r ↦ cond (eqb (tally len (z .before)) o) (done, merge (z .before) n r (z .after) l) (refused 8, l)
     | free n r ↦ (refused 5, l)
   ]
 
-  unfoldable pub handBack : ℕ → Ledger (E .Index) → Answer × Ledger (E .Index)
+  -- "handing back and asking a length carry the offset too"
+  unfoldable pub handBack : (o r : ℕ) → Ledger (E .Index) → Answer × Ledger (E .Index)
   unfolding giveBack find
-  handBack r l = giveBack l (find r [] (l .line))
+  handBack o r l = giveBack o l (find r [] (l .line))
 
 -- ---- questions
-unfoldable pub lengthAt : Option Spot → Answer
-lengthAt none = refused 5
-lengthAt (some z) = elim (z .here) [ live n r ↦ length-is n | free n r ↦ refused 5 ]
+unfoldable pub lengthAt : ℕ → Option Spot → Answer
+lengthAt o none = refused 5
+lengthAt o (some z) = elim (z .here) [ live n r ↦ cond (eqb (tally len (z .before)) o) (length-is n) (refused 8) | free n r ↦ refused 5 ]
 
-unfoldable pub sizeOf : {I : Type 0} → ℕ → Ledger I → Answer
+unfoldable pub sizeOf : {I : Type 0} → (o r : ℕ) → Ledger I → Answer
 unfolding lengthAt find
-sizeOf r l = lengthAt (find r [] (l .line))
+sizeOf o r l = lengthAt o (find r [] (l .line))
 
 abbrev pub freeLen : Region → ℕ
 freeLen (live n r) = 0

@@ -36,11 +36,10 @@ pub record Meanings : Type 0 where
   pub no-empty-one-within : (o p m : ℕ) → Disjoint o 0 p m → p < o → p + m ≤ o
   pub disjoint-both-ways : (o n p m : ℕ) → Disjoint o n p m → Disjoint p m o n
   pub apart-by-address : (o n p m : ℕ) → 1 ≤ n → 1 ≤ m → ((a : ℕ) → Inside a o n → ¬ Inside a p m) → Disjoint o n p m
-  -- ---- calls that leave r: all but a hand-back of r and a reset
-  pub leaves-exactly : (r : ℕ) (c : Call) → Leaves r c ↔ (((span : Token) → c ≡ HandBack span → span .number ≢ r) × (c ≢ Reset))
-  pub all-leave-exactly : (r : ℕ) (cs : List Call)
-      → AllLeave r cs ↔ ((before after : List Call) (c : Call) → cs ≡ before ++ (c ∷ after)
-      → ((span : Token) → c ≡ HandBack span → span .number ≢ r) × (c ≢ Reset))
+  -- ---- calls that leave a span: all but the hand-back of its offset and record, and a reset
+  pub leaves-exactly : (o r : ℕ) (c : Call) → Leaves (spanOf o r) c ↔ ((c ≢ hands-back o r) × (c ≢ Reset))
+  pub all-leave-exactly : (o r : ℕ) (cs : List Call)
+      → AllLeave (spanOf o r) cs ↔ ((before after : List Call) (c : Call) → cs ≡ before ++ (c ∷ after) → (c ≢ hands-back o r) × (c ≢ Reset))
   -- ---- a stretch may begin with any grant, the return of the last granted, any refused call and any question, however it is answered
   pub may-grant : (own : List Token) (es : List Event) (asked : Request) (o r : ℕ) → Stretch (spanOf o r ∷ own) es
       → Stretch own (event (Take asked) (granted o r) ∷ es)
@@ -62,8 +61,8 @@ pub record Meanings : Type 0 where
   pub live-records : (r : ℕ) (line : List Region) → Among r (liveRecords line) ↔ ((n : ℕ) × (o : ℕ) × At (live n r) o line)
   -- ---- which numbers a call can be refused with
   pub take-refusals : (asked : Request) (k : ℕ) → CanRefuse (Take asked) k ↔ ((k ≡ 3) ⊎ (k ≡ 4))
-  pub hand-back-refusals : (span : Token) (k : ℕ) → CanRefuse (HandBack span) k ↔ (k ≡ 5)
-  pub size-refusals : (span : Token) (k : ℕ) → CanRefuse (Ask (SizeOf span)) k ↔ (k ≡ 5)
+  pub hand-back-refusals : (span : Token) (k : ℕ) → CanRefuse (HandBack span) k ↔ ((k ≡ 5) ⊎ (k ≡ 8))
+  pub size-refusals : (span : Token) (k : ℕ) → CanRefuse (Ask (SizeOf span)) k ↔ ((k ≡ 5) ⊎ (k ≡ 8))
   -- of the questions the size query alone; a reset never
   pub no-refusals : (q : Question) (k : ℕ) → CanRefuse (Ask q) k → (span : Token) × (q ≡ SizeOf span)
   pub reset-refusals : (k : ℕ) → ¬ CanRefuse Reset k
@@ -74,9 +73,12 @@ pub record Meanings : Type 0 where
   pub refusal-notes-nothing : (c : Call) (k : ℕ) (out : List Span) → note (event c (refused k)) out ≡ out
   pub question-notes-nothing : (q : Question) (a : Answer) (out : List Span) → note (event (Ask q) a) out ≡ out
   -- a grant adds one span; a return that is done strikes the last such, and no other; a reset that is done strikes all
-  pub grant-notes-one : (s o r : ℕ) (out : List Span) → note (event (takes s) (granted o r)) out ≡ record { size = s; number = r } ∷ out
-  pub return-strikes-one : (n o r : ℕ) (front back : List Span) → ((xs ys : List Span) (x : Span) → front ≡ xs ++ (x ∷ ys) → x .number ≢ r)
-      → note (event (hands-back o r) done) (front ++ (record { size = n; number = r } ∷ back)) ≡ front ++ back
-  pub return-strikes-no-other : (o r : ℕ) (out : List Span) → ((xs ys : List Span) (x : Span) → out ≡ xs ++ (x ∷ ys) → x .number ≢ r)
+  pub grant-notes-one : (s o r : ℕ) (out : List Span)
+      → note (event (takes s) (granted o r)) out ≡ record { offset = o; size = s; number = r } ∷ out
+  pub return-strikes-one : (n o r : ℕ) (front back : List Span)
+      → ((xs ys : List Span) (x : Span) → front ≡ xs ++ (x ∷ ys) → spanOf (x .offset) (x .number) ≢ spanOf o r)
+      → note (event (hands-back o r) done) (front ++ (record { offset = o; size = n; number = r } ∷ back)) ≡ front ++ back
+  pub return-strikes-no-other : (o r : ℕ) (out : List Span)
+      → ((xs ys : List Span) (x : Span) → out ≡ xs ++ (x ∷ ys) → spanOf (x .offset) (x .number) ≢ spanOf o r)
       → note (event (hands-back o r) done) out ≡ out
   pub reset-strikes-all : (out : List Span) → note (event Reset done) out ≡ []

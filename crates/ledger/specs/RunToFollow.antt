@@ -95,7 +95,7 @@ pub record NearlyRight : Type 0 where
   -- the search from the rounded-down class: a region of 16 would serve 17
   pub rounded-up : Answering 32 6 (takes 16 ∷ takes 17 ∷ takes 16 ∷ []) (granted 0 0 ∷ refused 4 ∷ granted 16 1 ∷ [])
   -- a reset begins anew, record numbers too
-  pub reset-anew : Answering 100 6 (takes 20 ∷ takes 30 ∷ hands-back 0 0 ∷ hands-back 20 1 ∷ Reset ∷ takes 50 ∷ asks-size 0 ∷ asks-size 1 ∷ [])
+  pub reset-anew : Answering 100 6 (takes 20 ∷ takes 30 ∷ hands-back 0 0 ∷ hands-back 20 1 ∷ Reset ∷ takes 50 ∷ asks-size 0 0 ∷ asks-size 20 1 ∷ [])
       (granted 0 0 ∷ granted 20 1 ∷ done ∷ done ∷ done ∷ granted 0 0 ∷ length-is 50 ∷ refused 5 ∷ [])
 
 -- ---- "Zero-length spans are ordinary regions"
@@ -106,16 +106,39 @@ pub record ZeroLength : Type 0 where
   pub kept-apart : end (answer by-class 100 6) (takes 20 ∷ takes 0 ∷ hands-back 0 0 ∷ []) (setup by-class 100 6) .line
       ≡ free 20 0 ∷ live 0 1 ∷ free 80 2 ∷ []
 
+-- ---- "Handle and offset must agree"
+pub record PairsAgree : Type 0 where
+  -- "handed back record 12 with another span's address": 8, and nothing changes, so that the span's own offset still serves
+  pub another's-offset : Answering 100 6
+      (takes 20 ∷ takes 30 ∷ hands-back 0 1 ∷ hands-back 20 0 ∷ asks-size 0 1 ∷ asks-size 20 1 ∷ hands-back 20 1 ∷ hands-back 0 0 ∷ takes 96 ∷ [])
+      (granted 0 0 ∷ granted 20 1 ∷ refused 8 ∷ refused 8 ∷ refused 8 ∷ length-is 30 ∷ done ∷ done ∷ granted 0 0 ∷ [])
+  -- "it comes after 5": a record that is not live, whatever the offset, its own last one too
+  pub after-5 : Answering 100 6
+      (takes 20 ∷ hands-back 20 1 ∷ hands-back 7 1 ∷ hands-back 0 9 ∷ asks-size 7 1 ∷ hands-back 0 0 ∷ hands-back 0 0 ∷ hands-back 7 0 ∷ [])
+      (granted 0 0 ∷ refused 5 ∷ refused 5 ∷ refused 5 ∷ refused 5 ∷ done ∷ refused 5 ∷ refused 5 ∷ [])
+  -- it is the offset that must agree: not the length, not the end, not the record's number
+  pub the-offset-alone : Answering 100 6
+      (takes 20 ∷ takes 30 ∷ hands-back 30 1 ∷ hands-back 50 1 ∷ hands-back 1 1 ∷ asks-size 30 1 ∷ asks-size 50 1 ∷ asks-size 1 1 ∷ hands-back 20 1 ∷ [])
+      (granted 0 0 ∷ granted 20 1 ∷ refused 8 ∷ refused 8 ∷ refused 8 ∷ refused 8 ∷ refused 8 ∷ refused 8 ∷ done ∷ [])
+  -- of two spans at one offset the record tells which
+  pub one-offset-twice : Answering 100 6 (takes 0 ∷ takes 20 ∷ hands-back 0 0 ∷ asks-size 0 1 ∷ hands-back 0 0 ∷ hands-back 0 1 ∷ [])
+      (granted 0 0 ∷ granted 0 1 ∷ done ∷ length-is 20 ∷ refused 5 ∷ done ∷ [])
+  -- "A stale pair that matches a later grant is still accepted": who handed the first span back already asks for the second one's length, and hands
+  -- it back
+  pub stale-pair : Answering 100 6 (takes 20 ∷ hands-back 0 0 ∷ takes 30 ∷ asks-size 0 0 ∷ hands-back 0 0 ∷ [])
+      (granted 0 0 ∷ done ∷ granted 0 0 ∷ length-is 30 ∷ done ∷ [])
+
 -- ---- numbers and figures, of each kind of call, answered and refused
 abbrev pub numberAndFigures : Event → ℕ × List ℕ
 numberAndFigures (event c a) = (refusalOf a, figuresOf c a)
 
 pub record FigureRows : Type 0 where
   pub in-a-run : map numberAndFigures (log (answer by-class 100 6)
-      (takes 20 ∷ takes 30 ∷ takes 49 ∷ asks-size 1 ∷ asks-size 9 ∷ Ask Report ∷ hands-back 20 1 ∷ hands-back 20 1 ∷ Reset ∷ [])
+      (takes 20 ∷ takes 30 ∷ takes 49 ∷ asks-size 20 1 ∷ asks-size 0 9 ∷ asks-size 0 1 ∷ Ask Report
+      ∷ hands-back 0 1 ∷ hands-back 20 1 ∷ hands-back 20 1 ∷ Reset ∷ [])
       (setup by-class 100 6))
-      ≡ (0, 0 ∷ 0 ∷ []) ∷ (0, 20 ∷ 1 ∷ []) ∷ (4, 0 ∷ 0 ∷ []) ∷ (0, 30 ∷ []) ∷ (5, 0 ∷ []) ∷ (0, 50 ∷ 48 ∷ [])
-      ∷ (0, []) ∷ (5, []) ∷ (0, []) ∷ []
+      ≡ (0, 0 ∷ 0 ∷ []) ∷ (0, 20 ∷ 1 ∷ []) ∷ (4, 0 ∷ 0 ∷ []) ∷ (0, 30 ∷ []) ∷ (5, 0 ∷ []) ∷ (8, 0 ∷ []) ∷ (0, 50 ∷ 48 ∷ [])
+      ∷ (8, []) ∷ (0, []) ∷ (5, []) ∷ (0, []) ∷ []
   -- the rows of a full report, each a value and a number
   pub of-rows : inARow ((16, 3) ∷ (18, 5) ∷ []) ≡ 16 ∷ 3 ∷ 18 ∷ 5 ∷ []
 
@@ -126,15 +149,16 @@ pub record StretchExamples : Type 0 where
       (takes 20 ∷ takes 30 ∷ takes 99 ∷ hands-back 20 1 ∷ Ask Report ∷ hands-back 0 0 ∷ []) (setup by-class 100 6))
   -- a stretch with a take of 0 in it, each call that can be refused, with each number, and each question
   pub all-kinds : Stretch [] (log (answer by-class 100 4)
-      (takes 0 ∷ asks-size 0 ∷ hands-back 0 0
-      ∷ takes 20 ∷ takes 99 ∷ takes 30 ∷ takes 1 ∷ hands-back 50 2 ∷ asks-size 9
+      (takes 0 ∷ asks-size 0 0 ∷ hands-back 0 0
+      ∷ takes 20 ∷ takes 99 ∷ takes 30 ∷ takes 1 ∷ hands-back 50 2 ∷ hands-back 0 1 ∷ asks-size 0 9 ∷ asks-size 0 1
       ∷ Ask Report ∷ Ask FullReport ∷ hands-back 20 1 ∷ hands-back 0 0 ∷ [])
       (setup by-class 100 4))
   -- and its answers
   pub all-kinds-answers : Answering 100 4
-      (takes 0 ∷ asks-size 0 ∷ hands-back 0 0 ∷ takes 20 ∷ takes 99 ∷ takes 30 ∷ takes 1 ∷ hands-back 50 2 ∷ asks-size 9 ∷ Ask Report ∷ [])
+      (takes 0 ∷ asks-size 0 0 ∷ hands-back 0 0
+      ∷ takes 20 ∷ takes 99 ∷ takes 30 ∷ takes 1 ∷ hands-back 50 2 ∷ hands-back 0 1 ∷ asks-size 0 9 ∷ asks-size 0 1 ∷ Ask Report ∷ [])
       (granted 0 0 ∷ length-is 0 ∷ done
-      ∷ granted 0 0 ∷ refused 4 ∷ granted 20 1 ∷ refused 3 ∷ refused 5 ∷ refused 5 ∷ reported 0 0 ∷ [])
+      ∷ granted 0 0 ∷ refused 4 ∷ granted 20 1 ∷ refused 3 ∷ refused 5 ∷ refused 8 ∷ refused 5 ∷ refused 8 ∷ reported 0 0 ∷ [])
   -- two spans handed back last granted first leave the ledger as it was; the later take has record 0
   pub in-order : Answering 100 6 (takes 20 ∷ takes 30 ∷ hands-back 20 1 ∷ hands-back 0 0 ∷ takes 40 ∷ [])
       (granted 0 0 ∷ granted 20 1 ∷ done ∷ done ∷ granted 0 0 ∷ [])

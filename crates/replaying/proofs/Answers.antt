@@ -9,4 +9,4 @@ use Rattle.replaying.specs.Rows.{MeaningRows}
 
 pub meaning-rows : MeaningRows
 unfolding answersOf meant asked begun setupGate answer setup up onTop without lowest
-meaning-rows = record { example = refl; before-any = refl; after-refused = refl; counts = refl; run-to-follow = refl }
+meaning-rows = record { example = refl; before-any = refl; after-refused = refl; counts = refl; run-to-follow = refl; elsewhere = refl }

@@ -127,6 +127,6 @@ module _ (E : Edition) where
       → Meets E w v a (meant E (length (w .nodes)) (length (w .pile)) c s)
   unfolding meant
   call-meets (Take size) s stands m = on-any s stands (m .promised)
-  call-meets (HandBack handle) s stands m = on-any s stands (m .promised)
+  call-meets (HandBack span) s stands m = on-any s stands (m .promised)
   call-meets (SetUp size count) s stands m = setup-by s _ refl (m .promised)
   call-meets Reset s stands m = on-any s stands (m .promised)

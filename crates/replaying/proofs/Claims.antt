@@ -70,7 +70,7 @@ module _ (E : Edition) where
   -- ---- as a run of the demands
   step-of : (c : Call) {w v : Words} {a : ledger.Answer} → Makes E c w v a → Step E w (inRun c) a v
   step-of (Take size) m = called (m .promised)
-  step-of (HandBack handle) m = called (m .promised)
+  step-of (HandBack span) m = called (m .promised)
   step-of (SetUp size count) m = set-up record { nodes-are = refl; pile-are = refl } (m .promised)
   step-of Reset m = called (m .promised)
 

@@ -27,7 +27,7 @@ use Rattle.replaying.specs.Replays.{Replays, StandsFor}
 -- a call of a journal as the demands' runs have it
 abbrev pub inRun : Call → Asked
 inRun (Take size) = Calling (ledger-calls.takes (size .0))
-inRun (HandBack handle) = Calling (ledger-calls.hands-back 0 (handle .0))
+inRun (HandBack span) = Calling (ledger-calls.hands-back (span .offset) (span .metadata .0))
 inRun (SetUp size count) = SettingUp (size .0) count
 inRun Reset = Calling ledger-calls.Reset
 

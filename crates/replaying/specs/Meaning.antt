@@ -32,7 +32,7 @@ module _ (E : Edition) (nodes pile : ℕ) where
   unfoldable pub meant : Call → Standing → Answer × Standing
   unfolding asked begun setupGate
   meant (Take size) s = asked (ledger.takes (size .0)) s
-  meant (HandBack handle) s = asked (ledger.hands-back 0 (handle .0)) s
+  meant (HandBack span) s = asked (ledger.hands-back (span .offset) (span .metadata .0)) s
   meant (SetUp size count) s = begun (setupGate E (size .0) count nodes pile) (size .0) count s
   meant Reset s = asked ledger.Reset s
 

@@ -1,6 +1,6 @@
 // A row of the list of runs: the call that it stands for. oracle/README.md has the letters.
 ghost use mathlib.Core.Path.{_≡_};
-ghost use Rattle.run_rows.specs.Asked.{isRow, callOf, questionOf};
+ghost use Rattle.run_rows.specs.Asked.{isRow, callOf, handBackOf, questionOf};
 use call_values::call::Call;
 use oracle_lists::rows::Reader;
 
@@ -14,15 +14,18 @@ fn is_row(row: Reader, letter: u8, fields: u32) -> bool
     false
 }
 
-// The questions.
+// The questions. Where a length is asked, the last number is what the Rust answered; the span is the two before it.
 fn question_of(row: Reader) -> Call
     ensures { λ r. ⌜ r ≡ questionOf row ⌝ }
 {
-    if is_row(row, b'l', 2) {
-        return Call::SizeOf(row.c);
+    if is_row(row, b'l', 3) {
+        return Call::SizeOf(row.b, row.c);
     }
-    if is_row(row, b'u', 2) {
-        return Call::SizeOf(row.c);
+    if is_row(row, b'u', 3) {
+        return Call::SizeOf(row.b, row.c);
+    }
+    if is_row(row, b'm', 3) {
+        return Call::SizeOf(row.b, row.c);
     }
     if is_row(row, b'r', 2) {
         return Call::Report;
@@ -34,6 +37,22 @@ fn question_of(row: Reader) -> Call
         return Call::ClassesHeld;
     }
     Call::Nothing
+}
+
+// The spans handed back, and the questions.
+fn hand_back_of(row: Reader) -> Call
+    ensures { λ r. ⌜ r ≡ handBackOf row ⌝ }
+{
+    if is_row(row, b'f', 2) {
+        return Call::HandBack(row.c, row.d);
+    }
+    if is_row(row, b'b', 2) {
+        return Call::HandBack(row.c, row.d);
+    }
+    if is_row(row, b'w', 2) {
+        return Call::HandBack(row.c, row.d);
+    }
+    question_of(row)
 }
 
 // The row's last number is d, the one before it c, the one before that b. A row that is none of the list's stands for no call.
@@ -52,11 +71,5 @@ pub fn call_of(row: Reader) -> Call
     if is_row(row, b'x', 1) {
         return Call::Take(row.d);
     }
-    if is_row(row, b'f', 1) {
-        return Call::HandBack(row.d);
-    }
-    if is_row(row, b'b', 1) {
-        return Call::HandBack(row.d);
-    }
-    question_of(row)
+    hand_back_of(row)
 }

@@ -120,9 +120,8 @@ fn step(
         };
     }
     let span = held::swap_remove(out, drawn.held, drawn.place());
-    let handle = span.metadata;
     let made = make(
-        Call::HandBack(handle),
+        Call::HandBack(span),
         t,
         state.at,
         journal,

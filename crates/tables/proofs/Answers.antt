@@ -8,7 +8,7 @@ use Rattle.tables.specs.Steps.{insertNodes, joinNodes, insertAt, insert,
 use Rattle.tables.specs.Gate.{gate, setupGate}
 use Rattle.tables.specs.Calls.{answerWords}
 use Rattle.tables.specs.Examples.{desk, reporting, withReports, RunOnWords, TwoTakes, NearlyRight}
-use Rattle.tables.specs.Examples.{spoiled, Spoiled, spoiledBits, SpoiledBits, GateRows}
+use Rattle.tables.specs.Examples.{spoiled, Spoiled, PairsOnWords, spoiledBits, SpoiledBits, GateRows}
 
 pub nearly-right : NearlyRight
 unfolding answerWords answers desk up value word put putLink insert insertAt insertNodes joinNodes unlink unlinkAt pushPile popPile
@@ -53,6 +53,19 @@ spoiled-refused = record {
   right-size = refl;
   right-offset = refl;
   right-link = refl;
+}
+
+pub pairs-on-words : PairsOnWords
+unfolding answerWords end desk up value word put insert insertAt insertNodes joinNodes putLink unlink unlinkAt pushPile popPile
+    leadingZeros trailingZeros
+pairs-on-words = record {
+  another's-offset = refl;
+  its-length = refl;
+  its-own = refl;
+  asked-elsewhere = refl;
+  asked-there = refl;
+  not-live = refl;
+  spoiled-offset = refl;
 }
 
 pub spoiled-bits : SpoiledBits

@@ -6,7 +6,7 @@ use Prim.Native.Nat.{ℕ, _+_, _≤_, _<_}
 use native.Mathlib.Nat.{zero-add}
 use native.Mathlib.Omega.{arith}
 use lib.ListN.{length, length-append}
-use borrow.Author.Tests.{lt-ltb, le-ltb}
+use borrow.Author.Tests.{lt-ltb, le-ltb, eq-eqb, ne-eqb}
 use Rattle.basics.specs.Sum.{one, is, tally}
 use Rattle.basics.proofs.Sums.{tally-le, tally-reverseAux}
 use Rattle.small_float.proofs.Rounding.{down-most}
@@ -18,7 +18,7 @@ use Rattle.ledger.proofs.Places.{Between, sum-at}
 use Rattle.ledger.proofs.Find.{at}
 use Rattle.ledger.proofs.KeptStacks.{stands-le, side-stands}
 use Rattle.ledger.proofs.Records.{all-records}
-use Rattle.ledger.proofs.Cases.{LiveCase, is-live, not-live, live-case}
+use Rattle.ledger.proofs.Cases.{LiveCase, is-live, is-elsewhere, not-live, live-case}
 use Rattle.ledger.proofs.CallsWell.{keeps-well}
 use Rattle.ledger.proofs.Outcomes.{call-case}
 use Rattle.basics.proofs.Clash.{clash}
@@ -33,7 +33,7 @@ use Rattle.tables.proofs.Linked.{last, linked-split}
 use Rattle.tables.proofs.Lines.{recs-append, Chain, reads-at}
 use Rattle.tables.proofs.Place.{Standing, Gap, placed}
 use Rattle.tables.proofs.SoundOf.{standing, headKept, head-of, sound-from}
-use Rattle.tables.proofs.SizeSound.{known-idle, known-live}
+use Rattle.tables.proofs.SizeSound.{known-idle, known-live, known-start}
 use Rattle.tables.proofs.Sides.{opens, one-owed, SideBefore, side-before, SideAfter, side-after}
 
 free-most : (x : Region) → freeLen x ≤ len x
@@ -141,7 +141,7 @@ module _ (E : Edition) (w : Words) (l : Ledger Stacks) (S : Sound E w l) (span :
       total = w .freeStorage + reads .1 .1 i;
     }
 
-    module _ (outcome : handsBack by-class span l ≡ (done, merge by-class before n r after l)) where
+    module _ (starts : tally len before ≡ span .offset) (outcome : handsBack by-class span l ≡ (done, merge by-class before n r after l)) where
       next-well : WellFormed by-class (w .size) (w .count) (merge by-class before n r after l)
       next-well = subst (λ (a : Answer × Ledger Stacks). WellFormed by-class (w .size) (w .count) (a .1)) outcome
           (unfold answer in keeps-well by-class class-laws (w .size) (w .count) l (S .well)
@@ -178,7 +178,15 @@ module _ (E : Edition) (w : Words) (l : Ledger Stacks) (S : Sound E w l) (span :
       plan-is = read ∙ ap (planMerged w p x (opens before) (opens after)) merged-is ∙ passed
         where
           read : planBack w span ≡ planMerged w p x (opens before) (opens after) (mergedOf w r p x (opens before) (opens after))
-          read = unfold planBack in rw (known-live E w l S r place, chain .1 .0, chain .1 .1, B .free-is, A .free-is)
+          read = unfold planBack in rw (
+            known-live E w l S r place,
+            known-start E w l S r place,
+            eq-eqb (tally len before) (span .offset) starts,
+            chain .1 .0,
+            chain .1 .1,
+            B .free-is,
+            A .free-is,
+          )
 
           passed : planMerged w p x (opens before) (opens after) merged ≡ BackPlan.merge p x (opens before) (opens after) merged
           passed = unfold planMerged in rw (
@@ -220,9 +228,13 @@ module _ (E : Edition) (w : Words) (l : Ledger Stacks) (S : Sound E w l) (span :
   pub back-sound : (doBack E w r (planBack w span) .0 ≡ handsBack by-class span l .0)
       × Sound E (doBack E w r (planBack w span) .1) (handsBack by-class span l .1)
   unfolding doBack
-  back-sound = go (live-case by-class (S .well) r)
+  back-sound = go (live-case by-class (S .well) (span .offset) r)
     where
-      go : LiveCase by-class r l
+      go : LiveCase by-class (span .offset) r l
           → (doBack E w r (planBack w span) .0 ≡ handsBack by-class span l .0) × Sound E (doBack E w r (planBack w span) .1) (handsBack by-class span l .1)
-      go (is-live n before after place e q) = rw (plan-is n before after place e, e) (refl, merging-sound n before after place e)
+      go (is-live n before after place p e q) = rw (plan-is n before after place p e, e) (refl, merging-sound n before after place p e)
+      go (is-elsewhere n before after place p e q) =
+          let astray : planBack w span ≡ stop 8
+          = unfold planBack in rw (known-live E w l S r place, known-start E w l S r place, ne-eqb (tally len before) (span .offset) p) in
+          rw (astray, e) (refl, S)
       go (not-live h e q) = let idle : planBack w span ≡ stop 5 = unfold planBack in rw (known-idle E w l S r h) in rw (idle, e) (refl, S)

@@ -2,7 +2,7 @@
 use Rattle.tables.specs.Words.{Edition}
 use Rattle.tables.specs.Claims.{Claims}
 use Rattle.tables.proofs.Refusals.{setup-1, setup-10, setup-2, setup-done, setup-refused, call-6, call-2, not-2}
-use Rattle.tables.proofs.Refusals.{take-3, back-5, size-5, numbers, numbers-behind, setup-numbers}
+use Rattle.tables.proofs.Refusals.{take-3, back-5, size-5, back-8, size-8, numbers, numbers-behind, setup-numbers}
 use Rattle.tables.proofs.Kept.{refused-kept, grant-inside}
 use Rattle.tables.proofs.NotWritten.{not-written}
 use Rattle.tables.proofs.SetupLeaves.{setup-leaves, setup-pile-leaves, setup-lengths, reset-leaves}
@@ -35,6 +35,8 @@ claims E = record {
   take-3 = take-3 E;
   back-5 = back-5 E;
   size-5 = size-5 E;
+  back-8 = back-8 E;
+  size-8 = size-8 E;
   numbers = numbers E;
   numbers-behind = numbers-behind E;
   setup-numbers = setup-numbers E;

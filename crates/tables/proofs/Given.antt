@@ -11,13 +11,14 @@ use lib.Dec.{ltb}
 use lib.Count.{leadingZeros, trailingZeros}
 use lib.ListN.{length, getD, replicate, length-replicate, getD-replicate, List·getD-eq-default}
 use lib.Pow.{pow-pos}
-use borrow.Author.Tests.{lt-ltb}
+use borrow.Author.Tests.{lt-ltb, eq-eqb, ne-eqb}
+use Rattle.basics.proofs.Clash.{clash}
 use Rattle.basics.proofs.Decided.{below, beyond, below?}
 use Rattle.small_float.specs.Class.{up}
 use Rattle.ledger.specs.Ledger.{Answer, done, refused, setup, by-class}
-use Rattle.ledger.specs.Calls.{Request, Token, Question, Call, Take, HandBack, Reset, Ask, answer, end}
+use Rattle.ledger.specs.Calls.{Request, Token, Question, SizeOf, Report, FullReport, Call, Take, HandBack, Reset, Ask, answer, end}
 use Rattle.ledger.proofs.SmallStores.{small-stores}
-use Rattle.tables.specs.Layout.{neighborPrev, neighborNext, used, word, nodesNeeded, pileNeeded}
+use Rattle.tables.specs.Layout.{dataOffset, neighborPrev, neighborNext, used, word, nodesNeeded, pileNeeded}
 use Rattle.tables.specs.Words.{Words, withTotal, withLists}
 use Rattle.tables.specs.Search.{lowFrom, lowInBin, leafOrAbove, findClass}
 use Rattle.tables.specs.Search as found
@@ -28,13 +29,13 @@ use Rattle.tables.specs.Questions.{mayTell}
 use Rattle.tables.specs.Calls.{edition32, behind, answerWords}
 use Rattle.tables.specs.Room.{Room}
 use Rattle.tables.specs.Claims.{OneOf, mayGiveBehind, mayGive, NotLive}
-use Rattle.tables.specs.Examples.{LongEnough, CountRows, GivenBehind, AllGiven, EveryEdition}
+use Rattle.tables.specs.Examples.{LongEnough, CountRows, GivenBehind, AsksOfAStore, OfAStore, AllGiven, EveryEdition}
 use Rattle.tables.proofs.MaskEnds.{low-past}
 use Rattle.tables.proofs.PlanEnds.{either}
-use Rattle.tables.proofs.Gate.{call-open}
-use Rattle.tables.proofs.Questions.{bare, two, room, all-zero, told-given}
+use Rattle.tables.proofs.Gate.{call-open, bad-count, too-short, open-gate, gated?}
+use Rattle.tables.proofs.Questions.{bare, two, room, all-zero, marked, marked-room, marked-live, marked-starts, told-given}
 use Rattle.tables.proofs.Refusals.{setup-1, setup-10, setup-2, setup-done, setup-refused, setup-numbers}
-use Rattle.tables.proofs.Refusals.{call-6, call-2, take-3, back-5, size-5}
+use Rattle.tables.proofs.Refusals.{call-6, call-2, take-3, back-5, back-8, size-8}
 use Rattle.tables.proofs.OverRuns.{call-sound, demand-2}
 
 -- ---- counts
@@ -125,45 +126,50 @@ take-6 asked =
     ap (λ (o : Answer × Words). o .0) (call-open edition32 (Take asked) (no-units c) (room 1))
     ∙ ap (λ (p : TakePlan). doTake edition32 (no-units c) (asked .size) p .0) stops
 
--- every record is live, and more is free than there is
-abbrev too-free : (count : ℕ) → Words
-too-free count = withTotal (bare count 1 (replicate (8 * count) 1) (replicate count 0)) 1
+-- every record is live, record r starts at o, and more is free than there is
+abbrev too-free : (count o r : ℕ) → Words
+too-free count o r = withTotal (marked count o r) 1
 
-too-free-room : (count : ℕ) → 2 ≤ count → count ≤ 131072 → Room edition32 count (length (too-free count .nodes)) (length (too-free count .pile))
-too-free-room count low high = record {
-  count-low = low;
-  count-high = high;
-  nodes-room = omega (arith, length-replicate {A = ℕ} (8 * count) 1);
-  pile-room = omega (arith, length-replicate {A = ℕ} count 0);
-}
-
-total-outside : (count p x : ℕ) (p-free x-free : Bool) (m : Merged) → 1 ≤ m .total
-    → planMerged (too-free count) p x p-free x-free m ≡ BackPlan.stop 6
+total-outside : (count o r p x : ℕ) (p-free x-free : Bool) (m : Merged) → 1 ≤ m .total
+    → planMerged (too-free count o r) p x p-free x-free m ≡ BackPlan.stop 6
 unfolding planMerged
-total-outside count p x p-free x-free m h =
+total-outside count o r p x p-free x-free m h =
     either (λ (q : BackPlan). q ≡ BackPlan.stop 6) (ltb 0 (m .length)) refl (rw (lt-ltb 0 (m .total) (omega (arith, h))) refl)
 
-sides-outside : (count r p x : ℕ) → planNeighbours (too-free count) r p x ≡ BackPlan.stop 6
+sides-outside : (count o r p x : ℕ) → planNeighbours (too-free count o r) r p x ≡ BackPlan.stop 6
 unfolding planNeighbours planSides mergedOf
-sides-outside count r p x =
-    let w = too-free count in
+sides-outside count o r p x =
+    let w = too-free count o r in
     let p-free = isFree (w .nodes) count p in
     let x-free = isFree (w .nodes) count x in
-    total-outside count p x p-free x-free (mergedOf w r p x p-free x-free) (omega arith)
-
-all-live : (count r : ℕ) → r < count → isLive (too-free count .nodes) count r ≡ true
-unfolding isLive word
-all-live count r h = rw (lt-ltb r count h, getD-replicate {A = ℕ} (8 * count) (8 * r + used) 1 0 (omega (arith, h))) refl
+    total-outside count o r p x p-free x-free (mergedOf w r p x p-free x-free) (omega arith)
 
 back-6 : (count : ℕ) (span : Token) → 2 ≤ count → count ≤ 131072 → span .number < count
-    → answerWords edition32 (HandBack span) (too-free count) .0 ≡ refused 6
+    → answerWords edition32 (HandBack span) (too-free count (span .offset) (span .number)) .0 ≡ refused 6
 unfolding behind doBack
 back-6 count span low high h =
-    let w = too-free count in
+    let w = too-free count (span .offset) (span .number) in
     let stops : planBack w span ≡ BackPlan.stop 6
-    = unfold planBack in rw (all-live count (span .number) h)
-    (sides-outside count (span .number) (word (w .nodes) neighborPrev (span .number)) (word (w .nodes) neighborNext (span .number))) in
-    ap (λ (o : Answer × Words). o .0) (call-open edition32 (HandBack span) w (too-free-room count low high))
+    = unfold planBack in rw (
+      marked-live count (span .offset) (span .number) h,
+      eq-eqb (word (w .nodes) dataOffset (span .number)) (span .offset) (marked-starts count (span .offset) (span .number) h),
+    )
+    (sides-outside count (span .offset) (span .number) (word (w .nodes) neighborPrev (span .number)) (word (w .nodes) neighborNext (span .number))) in
+    ap (λ (o : Answer × Words). o .0) (call-open edition32 (HandBack span) w (marked-room count (span .offset) (span .number) low high))
+    ∙ ap (λ (p : BackPlan). doBack edition32 w (span .number) p .0) stops
+
+back-gives-8 : (count : ℕ) (span : Token) → 2 ≤ count → count ≤ 131072 → span .number < count
+    → answerWords edition32 (HandBack span) (marked count (span .offset + 1) (span .number)) .0 ≡ refused 8
+unfolding behind doBack
+back-gives-8 count span low high h =
+    let w = marked count (span .offset + 1) (span .number) in
+    let stops : planBack w span ≡ BackPlan.stop 8
+    = unfold planBack in rw (
+      marked-live count (span .offset + 1) (span .number) h,
+      marked-starts count (span .offset + 1) (span .number) h,
+      ne-eqb (span .offset + 1) (span .offset) (λ e. omega arith),
+    ) refl in
+    ap (λ (o : Answer × Words). o .0) (call-open edition32 (HandBack span) w (marked-room count (span .offset + 1) (span .number) low high))
     ∙ ap (λ (p : BackPlan). doBack edition32 w (span .number) p .0) stops
 
 -- ---- each number that is named
@@ -175,10 +181,10 @@ renumber c e x = (x .0, x .1 ∙ ap refused (sym e))
 renumber-behind : (c : Call) {j k : ℕ} → k ≡ j → GivenBehind c j → GivenBehind c k
 renumber-behind c e x = (x .0, x .1, x .2 ∙ ap refused (sym e))
 
-told-behind : (q : Question) (k : ℕ) → OneOf (mayTell q) k → GivenBehind (Ask q) k
+told-behind : (q : Question) (k : ℕ) → (k ≡ 8 → AsksOfAStore q) → OneOf (mayTell q) k → GivenBehind (Ask q) k
 unfolding behind
-told-behind q k e =
-    let x = told-given q k e in
+told-behind q k in-store e =
+    let x = told-given q k in-store e in
     (x .0, x .1, ap (λ (o : Answer × Words). o .0) (call-open edition32 (Ask q) (x .0) (x .1)) ∙ x .2)
 
 take-behind : (asked : Request) (k : ℕ) → OneOf (mayGiveBehind (Take asked)) k → GivenBehind (Take asked) k
@@ -191,35 +197,74 @@ take-behind asked k (inr (inr (inr e))) = absurd e
 not-live-5 : (span : Token) → answerWords edition32 (HandBack span) (two 0) .0 ≡ refused 5
 not-live-5 span = back-5 edition32 (two 0) span (room 0) .1 (not-live 0 (span .number))
 
+-- 8 is given to a record that starts one further on
+elsewhere-8 : (span : Token) → span .number < edition32 .limit → GivenBehind (HandBack span) 8
+elsewhere-8 span h = (
+  marked 131072 (span .offset + 1) (span .number),
+  marked-room 131072 (span .offset + 1) (span .number) (omega arith) (omega arith),
+  back-gives-8 131072 span (omega arith) (omega arith) h,
+)
+
 back-behind : (span : Token) (k : ℕ) → span .number < edition32 .limit → OneOf (mayGiveBehind (HandBack span)) k → GivenBehind (HandBack span) k
 back-behind span k h (inl e) = renumber-behind (HandBack span) e (two 0, room 0, not-live-5 span)
-back-behind span k h (inr (inl e)) =
-    renumber-behind (HandBack span) e
-    (too-free 131072, too-free-room 131072 (omega arith) (omega arith), back-6 131072 span (omega arith) (omega arith) h)
-back-behind span k h (inr (inr e)) = absurd e
+back-behind span k h (inr (inl e)) = renumber-behind (HandBack span) e (elsewhere-8 span h)
+back-behind span k h (inr (inr (inl e))) =
+    renumber-behind (HandBack span) e (
+      too-free 131072 (span .offset) (span .number),
+      marked-room 131072 (span .offset) (span .number) (omega arith) (omega arith),
+      back-6 131072 span (omega arith) (omega arith) h,
+    )
+back-behind span k h (inr (inr (inr e))) = absurd e
 
-given-behind : (c : Call) (k : ℕ) → OneOf (mayGiveBehind c) k → (w : Words) × (answerWords edition32 c w .0 ≡ refused k)
-given-behind (Take asked) k e = let x = take-behind asked k e in (x .0, x .2)
-given-behind (HandBack span) k (inl e) = renumber (HandBack span) e (two 0, not-live-5 span)
-given-behind (HandBack span) k (inr (inl e)) = renumber (HandBack span) e (gives-6 (HandBack span))
-given-behind (HandBack span) k (inr (inr e)) = absurd e
-given-behind Reset k e = absurd e
-given-behind (Ask q) k e = let x = told-behind q k e in (x .0, x .2)
+given-behind : (c : Call) (k : ℕ) → (k ≡ 8 → OfAStore c) → OneOf (mayGiveBehind c) k → (w : Words) × (answerWords edition32 c w .0 ≡ refused k)
+given-behind (Take asked) k in-store e = let x = take-behind asked k e in (x .0, x .2)
+given-behind (HandBack span) k in-store (inl e) = renumber (HandBack span) e (two 0, not-live-5 span)
+given-behind (HandBack span) k in-store (inr (inl e)) = let x = elsewhere-8 span (in-store e) in renumber (HandBack span) e (x .0, x .2)
+given-behind (HandBack span) k in-store (inr (inr (inl e))) = renumber (HandBack span) e (gives-6 (HandBack span))
+given-behind (HandBack span) k in-store (inr (inr (inr e))) = absurd e
+given-behind Reset k in-store e = absurd e
+given-behind (Ask q) k in-store e = let x = told-behind q k in-store e in (x .0, x .2)
 
-given : (c : Call) (k : ℕ) → OneOf (mayGive c) k → (w : Words) × (answerWords edition32 c w .0 ≡ refused k)
-given c k (inl e) = renumber c e (gives-6 c)
-given c k (inr (inl e)) = renumber c e (gives-2 c)
-given c k (inr (inr e)) = given-behind c k e
+given : (c : Call) (k : ℕ) → (k ≡ 8 → OfAStore c) → OneOf (mayGive c) k → (w : Words) × (answerWords edition32 c w .0 ≡ refused k)
+given c k in-store (inl e) = renumber c e (gives-6 c)
+given c k in-store (inr (inl e)) = renumber c e (gives-2 c)
+given c k in-store (inr (inr e)) = given-behind c k in-store e
 
-five : (k : ℕ) → OneOf (5 ∷ []) k → k ≡ 5
-five k (inl e) = e
-five k (inr e) = absurd e
+five-or-eight : (k : ℕ) → OneOf (5 ∷ 8 ∷ []) k → (k ≡ 5) ⊎ (k ≡ 8)
+five-or-eight k (inl e) = inl e
+five-or-eight k (inr (inl e)) = inr e
+five-or-eight k (inr (inr e)) = absurd e
+
+both-named : (k : ℕ) → (k ≡ 5) ⊎ (k ≡ 8) → OneOf (5 ∷ 8 ∷ []) k
+both-named k (inl e) = inl e
+both-named k (inr e) = inr (inl e)
+
+-- ---- 8 is given behind an open gate alone, and there to a record below the count, which is at most the limit
+opened : (c : Call) (w : Words) → answerWords edition32 c w .0 ≡ refused 8 → Room edition32 (w .count) (length (w .nodes)) (length (w .pile))
+opened c w e = elim (gated? edition32 6 (w .count) (length (w .nodes)) (length (w .pile))) [
+  | bad-count h g ↦ clash (cc (call-6 edition32 c w h))
+  | too-short h g ↦ clash (cc (call-2 edition32 c w h))
+  | open-gate h g ↦ h
+]
+
+asked-never-8 : (q : Question) (w : Words) → answerWords edition32 (Ask q) w .0 ≡ refused 8 → AsksOfAStore q
+asked-never-8 (SizeOf span) w e =
+    let room = opened (Ask (SizeOf span)) w e in omega (arith, size-8 edition32 w span room .0 e .0, room .count-high)
+asked-never-8 Report w e = tt
+asked-never-8 FullReport w e = tt
+
+never-8 : (c : Call) (w : Words) → answerWords edition32 c w .0 ≡ refused 8 → OfAStore c
+never-8 (Take asked) w e = tt
+never-8 (HandBack span) w e = let room = opened (HandBack span) w e in omega (arith, back-8 edition32 w span room .0 e .0, room .count-high)
+never-8 Reset w e = tt
+never-8 (Ask q) w e = asked-never-8 q w e
 
 pub all-given : AllGiven
 all-given = record {
   all-given = given;
   reset-never = λ k e. e;
-  size-query-5 = λ span k. (five k, λ e. inl e);
+  never-8 = never-8;
+  size-query-5-8 = λ span k. (five-or-eight k, both-named k);
   take-behind = take-behind;
   back-behind = back-behind;
   told-behind = told-behind;

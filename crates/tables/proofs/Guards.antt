@@ -17,6 +17,7 @@ use Rattle.tables.specs.Search.{Found, class-is, no-class, bad-bits, fin
 use Rattle.tables.specs.Take.{TakePlan, planSpare, planRegion, planRecord, planClass, planTake}
 use Rattle.tables.specs.HandBack.{BackPlan, Merged, isLive, isFree, mergedOf, planMerged, planSides, planNeighbours, planBack}
 use Rattle.tables.specs.Guards.{GrantGuards, SplitGuards, TakeGuards, MergeGuards, BackGuards, GuardsMean}
+use Rattle.tables.proofs.PlanEnds.{either}
 
 -- ---- take
 module _ (w : Words) (s : ℕ) (spare : 1 ≤ w .freeOffset) where
@@ -127,13 +128,18 @@ back-guards w span = go (isLive (w .nodes) (w .count) (span .number)) refl
     x : ℕ
     x = word (w .nodes) neighborNext r
 
+    there : Bool
+    there = eqb (word (w .nodes) dataOffset r) (span .offset)
+
     go : (t : Bool) → isLive (w .nodes) (w .count) r ≡ t
-        → BackGuards w r (cond t (planNeighbours w r p x) (BackPlan.stop 5))
-    go true e = merged-guards w r p x (isFree (w .nodes) (w .count) p) (isFree (w .nodes) (w .count) x)
+        → BackGuards w r (cond t (cond there (planNeighbours w r p x) (BackPlan.stop 8)) (BackPlan.stop 5))
+    go true e = either (BackGuards w r) there
+        (merged-guards w r p x (isFree (w .nodes) (w .count) p) (isFree (w .nodes) (w .count) x)
         (mergedOf w r p x (isFree (w .nodes) (w .count) p) (isFree (w .nodes) (w .count) x))
         (live-low (w .nodes) (w .count) r e)
         (free-low (w .nodes) (w .count) p)
-        (free-low (w .nodes) (w .count) x)
+        (free-low (w .nodes) (w .count) x))
+        tt
     go false e = tt
 
 pub guards-mean : GuardsMean

@@ -1,10 +1,10 @@
 -- Each question, in one place: which refusals it can give, that it reads no word beyond those that its count needs, and that on sound words it answers
 -- as the ledger does. A new question has its clauses here and in ledger's file of this name, and in no other proof. Assumes nothing.
-use mathlib.Core.Path.{_≡_, refl, sym, ap, _∙_}
+use mathlib.Core.Path.{_≡_, refl, sym, ap, ap₂, _∙_}
 use mathlib.Core.Bool.{Bool, true, false, cond}
 use mathlib.Core.Logic.{_⊎_, inl, inr}
 use mathlib.Core.List.{List, [], _∷_}
-use Prim.Native.Nat.{ℕ, zero, suc, _+_, _*_, _<_}
+use Prim.Native.Nat.{ℕ, zero, suc, _+_, _*_, _≤_, _<_}
 use native.Mathlib.Omega.{arith}
 use lib.Dec.{ltb, eqb}
 use lib.Count.{leadingZeros}
@@ -13,7 +13,8 @@ use Rattle.basics.proofs.Decided.{Below, below, beyond, below?}
 use Rattle.small_float.specs.Class.{classesInUse}
 use Rattle.ledger.specs.Ledger.{Ledger, Stacks, by-class, Answer, granted, done, length-is, reported, classes, refused}
 use Rattle.ledger.specs.Calls.{Token, Question, SizeOf, Report, FullReport, told}
-use Rattle.tables.specs.Layout.{dataSize, binNext, used, word, nodesNeeded, pileNeeded}
+use borrow.Author.Tests.{lt-ltb, ne-eqb}
+use Rattle.tables.specs.Layout.{dataOffset, dataSize, binNext, used, word, put, nodesNeeded, pileNeeded}
 use Rattle.tables.specs.Words.{Words, Edition, withLists, withTables, wordsFrom}
 use Rattle.tables.specs.Search.{highBit}
 use Rattle.tables.specs.HandBack.{isLive}
@@ -24,9 +25,11 @@ use Rattle.tables.specs.Room.{Room}
 use Rattle.tables.specs.Reach.{AgreeOn}
 use Rattle.tables.specs.Sound.{Sound}
 use Rattle.tables.specs.Claims.{OneOf}
+use Rattle.tables.specs.Examples.{AsksOfAStore}
 use Rattle.tables.proofs.PlanEnds.{either}
 use Rattle.tables.proofs.Guards.{live-low}
 use Rattle.tables.proofs.Agreeing.{word-agree}
+use Rattle.tables.proofs.Fields.{fits-below, length-put, word-put-field, word-put-same}
 use Rattle.tables.proofs.SizeSound.{length-is-told}
 use Rattle.tables.proofs.ReportSound.{report-is}
 use Rattle.tables.proofs.FullReportSound.{full-is}
@@ -63,14 +66,18 @@ module _ (w : Words) where
 
   pub told-gives : (q : Question) → Gives (mayTell q) (toldBy w q)
   unfolding toldBy lengthOf fullReportOf
-  told-gives (SizeOf span) = either (Gives (5 ∷ [])) (isLive (w .nodes) (w .count) (span .number)) tt (inl refl)
+  told-gives (SizeOf span) =
+      either (Gives (5 ∷ 8 ∷ [])) (isLive (w .nodes) (w .count) (span .number))
+      (either (Gives (5 ∷ 8 ∷ [])) (eqb (word (w .nodes) dataOffset (span .number)) (span .offset)) tt (inr (inl refl)))
+      (inl refl)
   told-gives Report = report-gives
   told-gives FullReport = full-gives (countFrom 256 w 0 (replicate 256 0))
 
--- 5 is a size query's, and 6 is all else
-pub tell-cases : (q : Question) (k : ℕ) → OneOf (mayTell q) k → ((k ≡ 5) × ((span : Token) × (q ≡ SizeOf span))) ⊎ (k ≡ 6)
-tell-cases (SizeOf span) k (inl e) = inl (e, (span, refl))
-tell-cases (SizeOf span) k (inr e) = absurd e
+-- 5 and 8 are a size query's, and 6 is all else
+pub tell-cases : (q : Question) (k : ℕ) → OneOf (mayTell q) k → (((k ≡ 5) ⊎ (k ≡ 8)) × ((span : Token) × (q ≡ SizeOf span))) ⊎ (k ≡ 6)
+tell-cases (SizeOf span) k (inl e) = inl (inl e, (span, refl))
+tell-cases (SizeOf span) k (inr (inl e)) = inl (inr e, (span, refl))
+tell-cases (SizeOf span) k (inr (inr e)) = absurd e
 tell-cases Report k (inl e) = inr e
 tell-cases Report k (inr e) = absurd e
 tell-cases FullReport k (inl e) = inr e
@@ -92,13 +99,20 @@ module _ (w : Words) (nodes pile : List ℕ) (N : AgreeOn (nodesNeeded (w .count
     | beyond l e ↦ rw e refl
   ]
 
-  size-same : (r : ℕ) → cond (isLive (w .nodes) (w .count) r) (length-is (word (w .nodes) dataSize r)) (refused 5)
-      ≡ cond (isLive nodes (w .count) r) (length-is (word nodes dataSize r)) (refused 5)
-  size-same r = rw (← (live-same r)) (at (isLive (w .nodes) (w .count) r) refl)
+  size-same : (span : Token) → lengthOf w span ≡ lengthOf v span
+  unfolding lengthOf
+  size-same span = rw (← (live-same (span .number))) (at (isLive (w .nodes) (w .count) (span .number)) refl)
     where
-      at : (t : Bool) → isLive (w .nodes) (w .count) r ≡ t
-          → cond t (length-is (word (w .nodes) dataSize r)) (refused 5) ≡ cond t (length-is (word nodes dataSize r)) (refused 5)
-      at true e = ap length-is (reads dataSize r (omega arith) (live-low (w .nodes) (w .count) r e))
+      -- what is told of a live record, by its offset word and its length
+      told-at : (start length : ℕ) → Answer
+      told-at start length = cond (eqb start (span .offset)) (length-is length) (refused 8)
+
+      at : (t : Bool) → isLive (w .nodes) (w .count) (span .number) ≡ t
+          → cond t (told-at (word (w .nodes) dataOffset (span .number)) (word (w .nodes) dataSize (span .number))) (refused 5)
+          ≡ cond t (told-at (word nodes dataOffset (span .number)) (word nodes dataSize (span .number))) (refused 5)
+      at true e =
+          let low = live-low (w .nodes) (w .count) (span .number) e in
+          ap₂ told-at (reads dataOffset (span .number) (omega arith) low) (reads dataSize (span .number) (omega arith) low)
       at false e = refl
 
   report-same : reportOf w ≡ reportOf v
@@ -123,14 +137,14 @@ module _ (w : Words) (nodes pile : List ℕ) (N : AgreeOn (nodesNeeded (w .count
 
   pub told-alike : (q : Question) → toldBy w q ≡ toldBy v q
   unfolding toldBy lengthOf fullReportOf
-  told-alike (SizeOf span) = size-same (span .number)
+  told-alike (SizeOf span) = size-same span
   told-alike Report = report-same
   told-alike FullReport = ap fullAnswer (counts-same 256 0 (replicate 256 0))
 
 -- ---- on sound words
 pub told-sound : (E : Edition) (w : Words) (l : Ledger Stacks) → Sound E w l → (q : Question) → toldBy w q ≡ told by-class (w .size) (w .count) q l
 unfolding toldBy told
-told-sound E w l S (SizeOf span) = length-is-told E w l S (span .number)
+told-sound E w l S (SizeOf span) = length-is-told E w l S (span .number) (span .offset)
 told-sound E w l S Report = report-is E w l S
 told-sound E w l S FullReport = full-is E w l S
 
@@ -171,17 +185,57 @@ size-5 span = elim (below? (span .number) 2) [
   | beyond l e ↦ rw e refl
 ]
 
+-- every record is marked live, and record r starts at o
+abbrev pub marked : (count o r : ℕ) → Words
+marked count o r = bare count 1 (put r dataOffset o (replicate (8 * count) 1)) (replicate count 0)
+
+pub marked-room : (count o r : ℕ) → 2 ≤ count → count ≤ 131072
+    → Room edition32 count (length (marked count o r .nodes)) (length (marked count o r .pile))
+marked-room count o r low high = record {
+  count-low = low;
+  count-high = high;
+  nodes-room = omega (arith, length-put r dataOffset o (replicate (8 * count) 1), length-replicate {A = ℕ} (8 * count) 1);
+  pile-room = omega (arith, length-replicate {A = ℕ} count 0);
+}
+
+pub marked-live : (count o r : ℕ) → r < count → isLive (marked count o r .nodes) count r ≡ true
+unfolding isLive word
+marked-live count o r h =
+    let ones = replicate {A = ℕ} (8 * count) 1 in
+    let its-mark : word (put r dataOffset o ones) used r ≡ 1
+    = word-put-field ones r dataOffset o r used refl refl refl ∙ getD-replicate {A = ℕ} (8 * count) (8 * r + used) 1 0 (omega (arith, h)) in
+    rw (lt-ltb r count h, its-mark) refl
+
+pub marked-starts : (count o r : ℕ) → r < count → word (marked count o r .nodes) dataOffset r ≡ o
+marked-starts count o r h =
+    let ones = replicate {A = ℕ} (8 * count) 1 in
+    word-put-same ones r dataOffset o refl (fits-below ones count r (omega (arith, length-replicate {A = ℕ} (8 * count) 1)) h)
+
+size-8 : (count : ℕ) (span : Token) → span .number < count → toldBy (marked count (span .offset + 1) (span .number)) (SizeOf span) ≡ refused 8
+unfolding toldBy lengthOf
+size-8 count span h = rw (
+  marked-live count (span .offset + 1) (span .number) h,
+  marked-starts count (span .offset + 1) (span .number) h,
+  ne-eqb (span .offset + 1) (span .offset) (λ e. omega arith),
+) refl
+
 abbrev Shown : Question → (j : ℕ) → Type 0
 Shown q j = (w : Words) × Room edition32 (w .count) (length (w .nodes)) (length (w .pile)) × (toldBy w q ≡ refused j)
 
 shown : (q : Question) {j k : ℕ} → k ≡ j → Shown q j → Shown q k
 shown q e x = (x .0, x .1, x .2 ∙ ap refused (sym e))
 
-pub told-given : (q : Question) (k : ℕ) → OneOf (mayTell q) k
+pub told-given : (q : Question) (k : ℕ) → (k ≡ 8 → AsksOfAStore q) → OneOf (mayTell q) k
     → (w : Words) × Room edition32 (w .count) (length (w .nodes)) (length (w .pile)) × (toldBy w q ≡ refused k)
-told-given (SizeOf span) k (inl e) = shown (SizeOf span) e (two 0, room 0, size-5 span)
-told-given (SizeOf span) k (inr e) = absurd e
-told-given Report k (inl e) = shown Report e (top-alone, room 1, report-6)
-told-given Report k (inr e) = absurd e
-told-given FullReport k (inl e) = shown FullReport e (two 1, room 1, around-6)
-told-given FullReport k (inr e) = absurd e
+told-given (SizeOf span) k in-store (inl e) = shown (SizeOf span) e (two 0, room 0, size-5 span)
+told-given (SizeOf span) k in-store (inr (inl e)) =
+    shown (SizeOf span) e (
+      marked 131072 (span .offset + 1) (span .number),
+      marked-room 131072 (span .offset + 1) (span .number) (omega arith) (omega arith),
+      size-8 131072 span (in-store e),
+    )
+told-given (SizeOf span) k in-store (inr (inr e)) = absurd e
+told-given Report k in-store (inl e) = shown Report e (top-alone, room 1, report-6)
+told-given Report k in-store (inr e) = absurd e
+told-given FullReport k in-store (inl e) = shown FullReport e (two 1, room 1, around-6)
+told-given FullReport k in-store (inr e) = absurd e

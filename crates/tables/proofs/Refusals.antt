@@ -1,17 +1,19 @@
 -- When setup is refused as 1 and as 2, and every other call as 6 and as 2 before all else, exactly; behind an open gate, when a take gives 3, and a
--- hand-back and a size query 5; and which numbers a call can give at all: on any words. Assumes nothing.
+-- hand-back and a size query 5 and 8; and which numbers a call can give at all: on any words. Assumes nothing.
 use mathlib.Core.Path.{_≡_, refl, sym, ap, subst, _∙_}
 use mathlib.Core.Bool.{Bool, true, false, cond}
-use mathlib.Core.Logic.{_↔_, inl, inr, _≢_}
+use mathlib.Core.Logic.{_↔_, _⊎_, inl, inr, _≢_}
 use mathlib.Core.List.{List, [], _∷_}
 use Prim.Native.Nat.{ℕ, suc, _<_, _≤_}
 use native.Mathlib.Omega.{arith}
 use lib.ListN.{length}
+use lib.Dec.{eqb}
+use Rattle.basics.proofs.Clash.{clash}
 use Rattle.basics.proofs.Decided.{Same, same, differ, same?, Below, below, beyond, below?}
 use Rattle.small_float.specs.Class.{up}
-use Rattle.ledger.specs.Ledger.{Answer, done, length-is, refused}
+use Rattle.ledger.specs.Ledger.{Answer, done, refused}
 use Rattle.ledger.specs.Calls.{Request, Token, SizeOf, Call, Take, HandBack, Reset, Ask}
-use Rattle.tables.specs.Layout.{dataSize, neighborPrev, neighborNext, used, word}
+use Rattle.tables.specs.Layout.{dataOffset, neighborPrev, neighborNext, used, word}
 use Rattle.tables.specs.Words.{Words, Edition}
 use Rattle.tables.specs.Gate.{gate, setupGate, gateOf}
 use Rattle.tables.specs.Setup.{Lent, fresh, zeros, setupWords}
@@ -21,7 +23,7 @@ use Rattle.tables.specs.HandBack.{BackPlan, merge, Merged, isLive, planN
 use Rattle.tables.specs.Questions.{lengthOf, toldBy}
 use Rattle.tables.specs.Calls.{behind, answerWords}
 use Rattle.tables.specs.Room.{Room}
-use Rattle.tables.specs.Claims.{BadCount, TooShort, TooLarge, OneOf, mayGive, NotLive, mayGiveBehind}
+use Rattle.tables.specs.Claims.{BadCount, TooShort, TooLarge, OneOf, mayGive, NotLive, Elsewhere, mayGiveBehind}
 use Rattle.tables.proofs.Gate.{bad-count, too-short, open-gate, gated?, room-not-bad, room-not-short, short-not-bad, call-open}
 use Rattle.tables.proofs.Gate.{SetupCase, count-bad, too-large, table-short, accepted, setup-case, large-not-bad, sizes-pass}
 use Rattle.tables.proofs.Gate.{room-opens, call-shut, setup-shut, setup-let-in}
@@ -164,11 +166,15 @@ call-2 E c w h = sym (call-shut E c w (omega arith) (short-shuts E 6 (w .count) 
 given : (ns : List ℕ) (a : Answer) (k : ℕ) → Gives ns a → a ≡ refused k → OneOf ns k
 given ns a k h e = subst (λ (x : Answer). Gives ns x) e h
 
-back-ends : (w : Words) (span : Token) (P : BackPlan → Type 0) → P (BackPlan.stop 5) → P (BackPlan.stop 6)
+back-ends : (w : Words) (span : Token) (P : BackPlan → Type 0) → P (BackPlan.stop 5) → P (BackPlan.stop 8) → P (BackPlan.stop 6)
     → ((p x : ℕ) (p-free x-free : Bool) (m : Merged) → P (merge p x p-free x-free m)) → P (planBack w span)
 unfolding planBack
-back-ends w span P at-5 at-6 at-merge = either P (isLive (w .nodes) (w .count) (span .number))
-    (neighbours-ends w (span .number) P at-6 at-merge (word (w .nodes) neighborPrev (span .number)) (word (w .nodes) neighborNext (span .number))) at-5
+back-ends w span P at-5 at-8 at-6 at-merge =
+    either P (isLive (w .nodes) (w .count) (span .number))
+    (either P (eqb (word (w .nodes) dataOffset (span .number)) (span .offset))
+    (neighbours-ends w (span .number) P at-6 at-merge (word (w .nodes) neighborPrev (span .number)) (word (w .nodes) neighborNext (span .number)))
+    at-8)
+    at-5
 
 module _ (E : Edition) (w : Words) where
   -- once there are spares, a take does not give 3
@@ -189,10 +195,11 @@ module _ (E : Edition) (w : Words) where
   neighbours-give r p x =
       neighbours-ends w r (λ b. Gives (6 ∷ []) (doBack E w r b .0)) (inl refl) (λ p x p-free x-free m. tt) p x
 
-  back-gives : (span : Token) → Gives (5 ∷ 6 ∷ []) (doBack E w (span .number) (planBack w span) .0)
+  back-gives : (span : Token) → Gives (5 ∷ 8 ∷ 6 ∷ []) (doBack E w (span .number) (planBack w span) .0)
   unfolding doBack
   back-gives span =
-      back-ends w span (λ p. Gives (5 ∷ 6 ∷ []) (doBack E w (span .number) p .0)) (inl refl) (inr (inl refl)) (λ p x p-free x-free m. tt)
+      back-ends w span (λ p. Gives (5 ∷ 8 ∷ 6 ∷ []) (doBack E w (span .number) p .0)) (inl refl) (inr (inl refl)) (inr (inr (inl refl)))
+      (λ p x p-free x-free m. tt)
 
   behind-gives : (c : Call) → Gives (mayGiveBehind c) (behind E c w .0)
   unfolding behind
@@ -213,9 +220,14 @@ without-2 (Take asked) (inr (inr (inl e))) = omega arith
 without-2 (Take asked) (inr (inr (inr e))) = e
 without-2 (HandBack span) (inl e) = omega arith
 without-2 (HandBack span) (inr (inl e)) = omega arith
-without-2 (HandBack span) (inr (inr e)) = e
+without-2 (HandBack span) (inr (inr (inl e))) = omega arith
+without-2 (HandBack span) (inr (inr (inr e))) = e
 without-2 Reset e = e
-without-2 (Ask q) e = elim (tell-cases q 2 e) [ inl five ↦ omega (arith, five .0) | inr six ↦ omega arith ]
+without-2 (Ask q) e = elim (tell-cases q 2 e) [ inl span's ↦ not-spans (span's .0) | inr six ↦ omega arith ]
+  where
+    not-spans : _≡_ {A = ℕ} 2 5 ⊎ _≡_ {A = ℕ} 2 8 → ⊥
+    not-spans (inl x) = omega arith
+    not-spans (inr x) = omega arith
 
 pub not-2 : (E : Edition) (c : Call) (w : Words) → Room E (w .count) (length (w .nodes)) (length (w .pile))
     → ¬ (answerWords E c w .0 ≡ refused 2)
@@ -232,15 +244,15 @@ numbers E c w k e = elim (gated? E 6 (w .count) (length (w .nodes)) (length (w .
     at : {j : ℕ} → OneOf (mayGive c) j → answerWords E c w ≡ (refused j, w) → OneOf (mayGive c) k
     at {j} h q = let same-number : j ≡ k = cc in subst (λ (n : ℕ). OneOf (mayGive c) n) same-number h
 
--- ---- 3 and 5, behind an open gate: exactly when
+-- ---- 3, 5 and 8, behind an open gate: exactly when
 not-3 : OneOf (4 ∷ 6 ∷ []) 3 → ⊥
 not-3 (inl e) = omega arith
 not-3 (inr (inl e)) = omega arith
 not-3 (inr (inr e)) = e
 
-not-5 : OneOf (6 ∷ []) 5 → ⊥
-not-5 (inl e) = omega arith
-not-5 (inr e) = e
+only-6 : (k : ℕ) → k ≢ 6 → OneOf (6 ∷ []) k → ⊥
+only-6 k h (inl e) = h e
+only-6 k h (inr e) = e
 
 spare-told : (E : Edition) (w : Words) (s : ℕ) → Same (w .freeOffset) 0 → doTake E w s (planTake w s) .0 ≡ refused 3 → w .freeOffset ≡ 0
 unfolding planTake
@@ -260,48 +272,87 @@ take-3 E w asked room =
     rw (call-open E (Take asked) w room)
     (spare-told E w (asked .size) (same? (w .freeOffset) 0), spare-gives E w (asked .size) (same? (w .freeOffset) 0))
 
--- the test of a live record is what it says
-data Lives (w : Words) (r : ℕ) : Type 0 where
-  dead : NotLive w r → isLive (w .nodes) (w .count) r ≡ false → Lives w r
-  alive : (NotLive w r → ⊥) → isLive (w .nodes) (w .count) r ≡ true → Lives w r
+-- what a span names, by the words: no live record; a live one that starts elsewhere; or one that starts there
+data Named (w : Words) (span : Token) : Type 0 where
+  dead : NotLive w (span .number) → isLive (w .nodes) (w .count) (span .number) ≡ false → Named w span
+  astray : Elsewhere w span → isLive (w .nodes) (w .count) (span .number) ≡ true
+      → eqb (word (w .nodes) dataOffset (span .number)) (span .offset) ≡ false → Named w span
+  there : word (w .nodes) dataOffset (span .number) ≡ span .offset → (NotLive w (span .number) → ⊥)
+      → isLive (w .nodes) (w .count) (span .number) ≡ true → eqb (word (w .nodes) dataOffset (span .number)) (span .offset) ≡ true → Named w span
 
-lives? : (w : Words) (r : ℕ) → Lives w r
+-- a record that is live is not one that is not
+not-both : (w : Words) (span : Token) → span .number < w .count → word (w .nodes) used (span .number) ≢ 0 → NotLive w (span .number) → ⊥
+not-both w span l e (inl h) = omega arith
+not-both w span l e (inr h) = e h
+
+named? : (w : Words) (span : Token) → Named w span
 unfolding isLive
-lives? w r = go (below? r (w .count)) (same? (word (w .nodes) used r) 0)
+named? w span =
+    go (below? (span .number) (w .count)) (same? (word (w .nodes) used (span .number)) 0)
+    (same? (word (w .nodes) dataOffset (span .number)) (span .offset))
   where
-    neither : r < w .count → word (w .nodes) used r ≢ 0 → NotLive w r → ⊥
-    neither l e (inl h) = omega arith
-    neither l e (inr h) = e h
+    go : Below (span .number) (w .count) → Same (word (w .nodes) used (span .number)) 0
+        → Same (word (w .nodes) dataOffset (span .number)) (span .offset) → Named w span
+    go (beyond l t) x y = dead (inl l) (rw t)
+    go (below l t) (same e z) y = dead (inr e) (rw (t, z))
+    go (below l t) (differ e z) (differ f u) = astray (l, e, f) (rw (t, z)) u
+    go (below l t) (differ e z) (same f u) = there f (not-both w span l e) (rw (t, z)) u
 
-    go : Below r (w .count) → Same (word (w .nodes) used r) 0 → Lives w r
-    go (beyond l t) x = dead (inl l) (rw t)
-    go (below l t) (same e z) = dead (inr e) (rw (t, z))
-    go (below l t) (differ e z) = alive (neither l e) (rw (t, z))
+-- 5 exactly if no live record is named, 8 exactly if it starts elsewhere
+abbrev FiveAndEight : Answer → (w : Words) → Token → Type 0
+FiveAndEight a w span = ((a ≡ refused 5) ↔ NotLive w (span .number)) × ((a ≡ refused 8) ↔ Elsewhere w span)
 
-back-dead-or-alive : (E : Edition) (w : Words) (span : Token) → Lives w (span .number)
-    → (doBack E w (span .number) (planBack w span) .0 ≡ refused 5) ↔ NotLive w (span .number)
+back-named : (E : Edition) (w : Words) (span : Token) → Named w span → FiveAndEight (doBack E w (span .number) (planBack w span) .0) w span
 unfolding planBack doBack
-back-dead-or-alive E w span (dead h t) = (λ a. h, λ x. rw t refl)
-back-dead-or-alive E w span (alive h t) = (
-  λ a. absurd (not-5 (given (6 ∷ []) _ 5
-      (neighbours-give E w (span .number) (word (w .nodes) neighborPrev (span .number)) (word (w .nodes) neighborNext (span .number))) (rw t at a))),
-  λ x. absurd (h x),
+back-named E w span (dead h t) = (
+  (λ a. h, λ x. rw t refl),
+  (λ a. clash (cc (rw t at a)), λ x. absurd (not-both w span (x .0) (x .1) h)),
+)
+back-named E w span (astray h t u) = (
+  (λ a. clash (cc (rw (t, u) at a)), λ x. absurd (not-both w span (h .0) (h .1) x)),
+  (λ a. h, λ x. rw (t, u) refl),
+)
+back-named E w span (there p h t u) = (
+  (λ a. absurd (only-6 5 (λ e. omega arith) (given (6 ∷ []) _ 5 gives (rw (t, u) at a))), λ x. absurd (h x)),
+  (λ a. absurd (only-6 8 (λ e. omega arith) (given (6 ∷ []) _ 8 gives (rw (t, u) at a))), λ x. absurd (x .2 p)),
+)
+  where
+    gives : Gives (6 ∷ []) (doBack E w (span .number)
+        (planNeighbours w (span .number) (word (w .nodes) neighborPrev (span .number)) (word (w .nodes) neighborNext (span .number))) .0)
+    gives = neighbours-give E w (span .number) (word (w .nodes) neighborPrev (span .number)) (word (w .nodes) neighborNext (span .number))
+
+size-named : (w : Words) (span : Token) → Named w span → FiveAndEight (lengthOf w span) w span
+unfolding lengthOf
+size-named w span (dead h t) = (
+  (λ a. h, λ x. rw t refl),
+  (λ a. clash (cc (rw t at a)), λ x. absurd (not-both w span (x .0) (x .1) h)),
+)
+size-named w span (astray h t u) = (
+  (λ a. clash (cc (rw (t, u) at a)), λ x. absurd (not-both w span (h .0) (h .1) x)),
+  (λ a. h, λ x. rw (t, u) refl),
+)
+size-named w span (there p h t u) = (
+  (λ a. clash (cc (rw (t, u) at a)), λ x. absurd (h x)),
+  (λ a. clash (cc (rw (t, u) at a)), λ x. absurd (x .2 p)),
 )
 
-size-dead-or-alive : (w : Words) (r : ℕ) → Lives w r
-    → (cond (isLive (w .nodes) (w .count) r) (length-is (word (w .nodes) dataSize r)) (refused 5) ≡ refused 5) ↔ NotLive w r
-size-dead-or-alive w r (dead h t) = (λ a. h, λ x. rw t refl)
-size-dead-or-alive w r (alive h t) = (
-  λ a. absurd (let z : _≡_ {A = ℕ} 0 1 = cc (rw t at a) in omega arith),
-  λ x. absurd (h x),
-)
+module _ (E : Edition) (w : Words) (span : Token) (room : Room E (w .count) (length (w .nodes)) (length (w .pile))) where
+  back-both : FiveAndEight (answerWords E (HandBack span) w .0) w span
+  unfolding behind
+  back-both = rw (call-open E (HandBack span) w room) (back-named E w span (named? w span))
 
-pub back-5 : (E : Edition) (w : Words) (span : Token) → Room E (w .count) (length (w .nodes)) (length (w .pile))
-    → (answerWords E (HandBack span) w .0 ≡ refused 5) ↔ NotLive w (span .number)
-unfolding behind
-back-5 E w span room = rw (call-open E (HandBack span) w room) (back-dead-or-alive E w span (lives? w (span .number)))
+  size-both : FiveAndEight (answerWords E (Ask (SizeOf span)) w .0) w span
+  unfolding behind toldBy
+  size-both = rw (call-open E (Ask (SizeOf span)) w room) (size-named w span (named? w span))
 
-pub size-5 : (E : Edition) (w : Words) (span : Token) → Room E (w .count) (length (w .nodes)) (length (w .pile))
-    → (answerWords E (Ask (SizeOf span)) w .0 ≡ refused 5) ↔ NotLive w (span .number)
-unfolding behind toldBy lengthOf
-size-5 E w span room = rw (call-open E (Ask (SizeOf span)) w room) (size-dead-or-alive w (span .number) (lives? w (span .number)))
+  pub back-5 : (answerWords E (HandBack span) w .0 ≡ refused 5) ↔ NotLive w (span .number)
+  back-5 = back-both .0
+
+  pub back-8 : (answerWords E (HandBack span) w .0 ≡ refused 8) ↔ Elsewhere w span
+  back-8 = back-both .1
+
+  pub size-5 : (answerWords E (Ask (SizeOf span)) w .0 ≡ refused 5) ↔ NotLive w (span .number)
+  size-5 = size-both .0
+
+  pub size-8 : (answerWords E (Ask (SizeOf span)) w .0 ≡ refused 8) ↔ Elsewhere w span
+  size-8 = size-both .1

@@ -191,7 +191,8 @@ module _ (K : Bounds) (w : Words) (stacks : ℕ → List ℕ) (spare : List ℕ)
   abbrev BitsAfter : Type 0
   BitsAfter =
       Bits (cond (ltb p (K .n)) (w .usedBins) (cond (ltb x (K .n)) (w .usedBins) (set (w .usedBins) (c / 8) cleared)))
-      (cond (ltb p (K .n)) (w .usedBinsTop) (cond (ltb x (K .n)) (w .usedBinsTop) (cond (eqb cleared 0) (clearBit 32 (w .usedBinsTop) (c / 8)) (w .usedBinsTop))))
+      (cond (ltb p (K .n)) (w .usedBinsTop)
+      (cond (ltb x (K .n)) (w .usedBinsTop) (cond (eqb cleared 0) (clearBit 32 (w .usedBinsTop) (c / 8)) (w .usedBinsTop))))
       stacks′
 
   bits′ : BitsAfter

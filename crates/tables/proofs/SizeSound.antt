@@ -4,17 +4,19 @@ use mathlib.Core.Bool.{true, false, cond}
 use mathlib.Core.List.{List, []}
 use Prim.Native.Nat.{ℕ, _<_}
 use native.Mathlib.Omega.{arith}
-use borrow.Author.Tests.{lt-ltb}
+use borrow.Author.Tests.{lt-ltb, eq-eqb, ne-eqb}
 use Rattle.basics.specs.Sum.{one, tally}
 use Rattle.basics.proofs.Decided.{below, beyond, below?}
+use Rattle.basics.proofs.Sums.{tally-reverseAux}
 use Rattle.basics.proofs.Counts.{is-own, one-below}
 use Rattle.ledger.specs.Ledger.{Ledger, Region, live, free, len, length-is, refused, sizeOf, by-class, Stacks}
+use Rattle.ledger.specs.Calls.{spanOf}
 use Rattle.ledger.specs.WellFormed.{has}
 use Rattle.ledger.specs.Claims.{Live}
 use Rattle.ledger.proofs.Places.{Between, sum-at, between-at}
 use Rattle.ledger.proofs.Find.{Found, missing, at, found?}
-use Rattle.ledger.proofs.Cases.{LiveCase, is-live, not-live, live-case}
-use Rattle.tables.specs.Layout.{dataSize, used, word}
+use Rattle.ledger.proofs.Cases.{LiveCase, is-live, is-elsewhere, not-live, live-case}
+use Rattle.tables.specs.Layout.{dataOffset, dataSize, used, word}
 use Rattle.tables.specs.Words.{Words, Edition}
 use Rattle.tables.specs.HandBack.{isLive}
 use Rattle.tables.specs.Questions.{lengthOf}
@@ -45,10 +47,17 @@ module _ (E : Edition) (w : Words) (l : Ledger Stacks) (S : Sound E w l) (r : �
       let r-below : r < w .count = one-below r (w .count) (omega (arith, S .well .lined .once r, sum-at place (has r), is-own r)) in
       unfold isLive in rw (lt-ltb r (w .count) r-below, reads-at (w .nodes) place (S .line .reads) .1 .2)
 
-  pub length-is-told : lengthOf w r ≡ sizeOf r l
+  -- its offset word is where it starts
+  pub known-start : {n : ℕ} {before after : List Region} → Between before (live n r) after (l .line)
+      → word (w .nodes) dataOffset r ≡ tally len before
+  known-start {before = before} place = omega (arith, reads-at (w .nodes) place (S .line .reads) .1 .0, tally-reverseAux len before [])
+
+  pub length-is-told : (o : ℕ) → lengthOf w (spanOf o r) ≡ sizeOf o r l
   unfolding lengthOf
-  length-is-told = go (live-case by-class (S .well) r)
+  length-is-told o = go (live-case by-class (S .well) o r)
     where
-      go : LiveCase by-class r l → cond (isLive (w .nodes) (w .count) r) (length-is (word (w .nodes) dataSize r)) (refused 5) ≡ sizeOf r l
-      go (is-live n before after place e q) = rw (known-live place, q, reads-at (w .nodes) place (S .line .reads) .1 .1)
+      go : LiveCase by-class o r l → lengthOf w (spanOf o r) ≡ sizeOf o r l
+      go (is-live n before after place p e q) =
+          rw (known-live place, known-start place, eq-eqb (tally len before) o p, q, reads-at (w .nodes) place (S .line .reads) .1 .1)
+      go (is-elsewhere n before after place p e q) = rw (known-live place, known-start place, ne-eqb (tally len before) o p, q)
       go (not-live h e q) = rw (known-idle h, q)

@@ -157,10 +157,17 @@ module _ (w : Words) (nodes pile : List ℕ) (N : AgreeOn (nodesNeeded (w .count
       r : ℕ
       r = span .number
 
+      -- what is planned for a live record, by its offset word
+      at-start : (start : ℕ) → BackPlan → BackPlan
+      at-start start plan = cond (eqb start (span .offset)) plan (BackPlan.stop 8)
+
       at : (t : Bool) → isLive (w .nodes) (w .count) r ≡ t
-          → cond t (planNeighbours w r (word (w .nodes) neighborPrev r) (word (w .nodes) neighborNext r)) (BackPlan.stop 5)
-          ≡ cond t (planNeighbours v r (word nodes neighborPrev r) (word nodes neighborNext r)) (BackPlan.stop 5)
-      at true e = links-same r (live-low (w .nodes) (w .count) r e)
+          → cond t (at-start (word (w .nodes) dataOffset r) (planNeighbours w r (word (w .nodes) neighborPrev r) (word (w .nodes) neighborNext r)))
+          (BackPlan.stop 5)
+          ≡ cond t (at-start (word nodes dataOffset r) (planNeighbours v r (word nodes neighborPrev r) (word nodes neighborNext r))) (BackPlan.stop 5)
+      at true e =
+          let low = live-low (w .nodes) (w .count) r e in
+          ap₂ at-start (reads dataOffset r (omega arith) low) (links-same r low)
       at false e = refl
 
   -- ---- hand back: the commit

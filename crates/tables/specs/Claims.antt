@@ -1,7 +1,7 @@
 -- All that is claimed of the words, each claim beneath the sentence that it states: one record, which proofs/Claims.antt makes for every
 -- edition. Assumes nothing.
 use mathlib.Core.Path.{_≡_}
-use mathlib.Core.Logic.{_↔_, _⊎_}
+use mathlib.Core.Logic.{_↔_, _⊎_, _≢_}
 use mathlib.Core.List.{List, [], _∷_}
 use Prim.Native.Nat.{ℕ, zero, suc, _+_, _*_, _-_, _≤_, _<_}
 use lib.ListN.{length, getD}
@@ -9,7 +9,7 @@ use Rattle.basics.specs.Extreme.{Greatest, Least}
 use Rattle.ledger.specs.Ledger.{Ledger, granted, done, refused, setup, by-class, Stacks}
 use Rattle.ledger.specs.Calls.{Request, Token, SizeOf, FullReport, Call, Take, HandBack, Reset, Ask, answer, end, answers, log}
 use Rattle.ledger.specs.Stretch.{Stretch}
-use Rattle.tables.specs.Layout.{binNext, used, word, nodesNeeded, pileNeeded}
+use Rattle.tables.specs.Layout.{dataOffset, binNext, used, word, nodesNeeded, pileNeeded}
 use Rattle.tables.specs.Words.{Words, Edition}
 use Rattle.tables.specs.Setup.{Lent, zeros, setupWords}
 use Rattle.tables.specs.Search.{class-is, no-class, findClass, highBit}
@@ -49,7 +49,7 @@ OneOf (n ∷ ns) k = (k ≡ n) ⊎ OneOf ns k
 -- the refusals that a call can give once the gate is open; a question's are in Questions.antt
 abbrev pub mayGiveBehind : Call → List ℕ
 mayGiveBehind (Take asked) = 3 ∷ 4 ∷ 6 ∷ []
-mayGiveBehind (HandBack span) = 5 ∷ 6 ∷ []
+mayGiveBehind (HandBack span) = 5 ∷ 8 ∷ 6 ∷ []
 mayGiveBehind Reset = []
 mayGiveBehind (Ask q) = mayTell q
 
@@ -60,6 +60,11 @@ mayGive c = 6 ∷ 2 ∷ mayGiveBehind c
 -- "number at or above the count, or record not live", by the words: its used word is 0
 abbrev pub NotLive : Words → ℕ → Type 0
 NotLive w r = (w .count ≤ r) ⊎ (word (w .nodes) used r ≡ 0)
+
+-- "the record is live but starts elsewhere", by the words: its used word is not 0, and its offset word is another number
+abbrev pub Elsewhere : Words → Token → Type 0
+Elsewhere w span =
+    (span .number < w .count) × (word (w .nodes) used (span .number) ≢ 0) × (word (w .nodes) dataOffset (span .number) ≢ span .offset)
 
 -- class c holds something
 abbrev pub Holds : Ledger Stacks → ℕ → Type 0
@@ -99,13 +104,18 @@ pub record Claims (E : Edition) : Type 0 where
   pub call-2 : (c : Call) (w : Words) → TooShort E (w .count) (length (w .nodes)) (length (w .pile)) → answerWords E c w ≡ (refused 2, w)
   pub not-2 : (c : Call) (w : Words) → Room E (w .count) (length (w .nodes)) (length (w .pile)) → ¬ (answerWords E c w .0 ≡ refused 2)
   -- ---- "given exactly when", behind an open gate and on any words, sound or not: 3 exactly if by the head one record is spare (`free_offset` is the
-  -- spare records less one, so no head says 'none'); 5 exactly if the number is at or above the count or the used word is 0
+  -- spare records less one, so no head says 'none'); 5 exactly if the number is at or above the count or the used word is 0; 8 exactly if it is neither
+  -- and the offset word is another number than the span's
   pub take-3 : (w : Words) (asked : Request) → Room E (w .count) (length (w .nodes)) (length (w .pile))
       → (answerWords E (Take asked) w .0 ≡ refused 3) ↔ (w .freeOffset ≡ 0)
   pub back-5 : (w : Words) (span : Token) → Room E (w .count) (length (w .nodes)) (length (w .pile))
       → (answerWords E (HandBack span) w .0 ≡ refused 5) ↔ NotLive w (span .number)
   pub size-5 : (w : Words) (span : Token) → Room E (w .count) (length (w .nodes)) (length (w .pile))
       → (answerWords E (Ask (SizeOf span)) w .0 ≡ refused 5) ↔ NotLive w (span .number)
+  pub back-8 : (w : Words) (span : Token) → Room E (w .count) (length (w .nodes)) (length (w .pile))
+      → (answerWords E (HandBack span) w .0 ≡ refused 8) ↔ Elsewhere w span
+  pub size-8 : (w : Words) (span : Token) → Room E (w .count) (length (w .nodes)) (length (w .pile))
+      → (answerWords E (Ask (SizeOf span)) w .0 ≡ refused 8) ↔ Elsewhere w span
   -- which numbers a call can give at all, and which behind an open gate; so no call but setup gives 1
   pub numbers : (c : Call) (w : Words) (k : ℕ) → answerWords E c w .0 ≡ refused k → OneOf (mayGive c) k
   pub numbers-behind : (c : Call) (w : Words) → Room E (w .count) (length (w .nodes)) (length (w .pile))

@@ -1,7 +1,7 @@
 -- Document 01's run on words, a small store shown whole, rows that catch models which are nearly right, and spoiled words.
 -- All are of the base's edition, on tables that held sevens; proofs/Answers.antt computes them. Assumes nothing.
 use mathlib.Core.Path.{_≡_}
-use mathlib.Core.Logic.{_↔_}
+use mathlib.Core.Logic.{_↔_, _⊎_}
 use Prim.Native.Nat.{ℕ, _^_, _≤_, _<_}
 use mathlib.Core.List.{List, [], _∷_, map}
 use lib.ListN.{length, set, replicate}
@@ -33,7 +33,7 @@ withReports (row ∷ rows) = row .0 ∷ reported (row .1 .0) (row .1 .1) ∷ wit
 pub record RunOnWords : Type 0 where
   pub the-run : answers (answerWords edition32) (Ask Report ∷ reporting the-calls) (desk 100 6) ≡ reported 100 96 ∷ withReports the-answers
   -- "The one region now belongs to record 2"; after a reset it is record 0's again
-  pub then-reset : answers (answerWords edition32) (takes 5 ∷ asks-size 2 ∷ Reset ∷ asks-size 2 ∷ takes 5 ∷ Ask Report ∷ [])
+  pub then-reset : answers (answerWords edition32) (takes 5 ∷ asks-size 0 2 ∷ Reset ∷ asks-size 0 2 ∷ takes 5 ∷ Ask Report ∷ [])
       (end (answerWords edition32) the-calls (desk 100 6))
       ≡ granted 0 2 ∷ length-is 5 ∷ done ∷ refused 5 ∷ granted 0 0 ∷ reported 95 88 ∷ []
 
@@ -106,6 +106,22 @@ pub record Spoiled : Type 0 where
   pub right-offset : spoiled dataOffset 0 ≡ desk 100 6
   pub right-link : spoiled binNext none ≡ desk 100 6
 
+-- ---- "Handle and offset must agree", on words, sound or not: 8, and the words as they came
+pub record PairsOnWords : Type 0 where
+  -- record 1 lies at 20 and is 30 long
+  pub another's-offset : answerWords edition32 (hands-back 0 1) afterTwo ≡ (refused 8, afterTwo)
+  pub its-length : answerWords edition32 (hands-back 30 1) afterTwo ≡ (refused 8, afterTwo)
+  pub its-own : answerWords edition32 (hands-back 20 1) afterTwo .0 ≡ done
+  pub asked-elsewhere : answerWords edition32 (asks-size 0 1) afterTwo ≡ (refused 8, afterTwo)
+  pub asked-there : answerWords edition32 (asks-size 20 1) afterTwo ≡ (length-is 30, afterTwo)
+  -- record 2 is free and lies at 50, record 3 is spare, and there is no record 6: 5, whatever the offset
+  pub not-live : map (λ (c : Call). answerWords edition32 c afterTwo .0) (hands-back 50 2 ∷ hands-back 0 2 ∷ hands-back 7 3 ∷ hands-back 0 6 ∷ [])
+      ≡ refused 5 ∷ refused 5 ∷ refused 5 ∷ refused 5 ∷ []
+  -- it is the word that counts: where record 0's is spoiled, its old offset no longer serves
+  pub spoiled-offset : map (λ (c : Call). answerWords edition32 c (withNodes afterTwo (put 0 dataOffset 9 (afterTwo .nodes))) .0)
+      (hands-back 0 0 ∷ asks-size 0 0 ∷ asks-size 9 0 ∷ [])
+      ≡ refused 8 ∷ refused 8 ∷ length-is 20 ∷ []
+
 -- ---- the bits spoiled in a fresh store, whose one region is of class 36: bit 4 of leaf byte 4, under bit 4 of the top word
 unfoldable pub spoiledBits : (top : ℕ) → (leaves : List ℕ) → Words
 unfolding desk
@@ -171,16 +187,30 @@ abbrev pub GivenBehind : Call → (k : ℕ) → Type 0
 GivenBehind c k =
     (w : Words) × Room edition32 (w .count) (length (w .nodes)) (length (w .pile)) × (answerWords edition32 c w .0 ≡ refused k)
 
+-- the call names no record, or one that a store can have
+abbrev pub AsksOfAStore : Question → Type 0
+AsksOfAStore (SizeOf span) = span .number < edition32 .limit
+AsksOfAStore Report = Unit
+AsksOfAStore FullReport = Unit
+
+abbrev pub OfAStore : Call → Type 0
+OfAStore (Take asked) = Unit
+OfAStore (HandBack span) = span .number < edition32 .limit
+OfAStore Reset = Unit
+OfAStore (Ask q) = AsksOfAStore q
+
 pub record AllGiven : Type 0 where
-  pub all-given : (c : Call) (k : ℕ) → OneOf (mayGive c) k → (w : Words) × (answerWords edition32 c w .0 ≡ refused k)
-  -- and behind an open gate no number is named that is not meant: a reset is never refused there, a size query with 5 alone
+  -- 8 is given to a record that can be live; to another it never is
+  pub all-given : (c : Call) (k : ℕ) → (k ≡ 8 → OfAStore c) → OneOf (mayGive c) k → (w : Words) × (answerWords edition32 c w .0 ≡ refused k)
+  pub never-8 : (c : Call) (w : Words) → answerWords edition32 c w .0 ≡ refused 8 → OfAStore c
+  -- and behind an open gate no number is named that is not meant: a reset is never refused there, a size query with 5 and 8 alone
   pub reset-never : (k : ℕ) → ¬ OneOf (mayGiveBehind Reset) k
-  pub size-query-5 : (span : Token) (k : ℕ) → OneOf (mayGiveBehind (Ask (SizeOf span))) k ↔ (k ≡ 5)
+  pub size-query-5-8 : (span : Token) (k : ℕ) → OneOf (mayGiveBehind (Ask (SizeOf span))) k ↔ ((k ≡ 5) ⊎ (k ≡ 8))
   -- and every number that is named there is given there, the 6 of a take, of a hand-back and of both reports among them: for a take of any size, for
   -- any record that a store can have, and for every question
   pub take-behind : (asked : Request) (k : ℕ) → OneOf (mayGiveBehind (Take asked)) k → GivenBehind (Take asked) k
   pub back-behind : (span : Token) (k : ℕ) → span .number < edition32 .limit → OneOf (mayGiveBehind (HandBack span)) k → GivenBehind (HandBack span) k
-  pub told-behind : (q : Question) (k : ℕ) → OneOf (mayGiveBehind (Ask q)) k → GivenBehind (Ask q) k
+  pub told-behind : (q : Question) (k : ℕ) → (k ≡ 8 → AsksOfAStore q) → OneOf (mayGiveBehind (Ask q)) k → GivenBehind (Ask q) k
   -- a number given behind an open gate is given by words for which there is room, no less
   pub given-behind-means : (c : Call) (k : ℕ) → GivenBehind c k
       → (w : Words) × Room edition32 (w .count) (length (w .nodes)) (length (w .pile)) × (answerWords edition32 c w .0 ≡ refused k)

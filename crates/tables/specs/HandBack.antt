@@ -57,11 +57,14 @@ unfoldable pub planNeighbours : Words → (r p x : ℕ) → BackPlan
 unfolding planSides isFree
 planNeighbours w r p x = planSides w r p x (isFree (w .nodes) (w .count) p) (isFree (w .nodes) (w .count) x)
 
+-- "refusal 8 is given exactly if the record is live but starts elsewhere; it comes after 5"
 unfoldable pub planBack : Words → Token → BackPlan
 unfolding planNeighbours isLive
 planBack w span =
     cond (isLive (w .nodes) (w .count) (span .number))
+    (cond (eqb (word (w .nodes) dataOffset (span .number)) (span .offset))
     (planNeighbours w (span .number) (word (w .nodes) neighborPrev (span .number)) (word (w .nodes) neighborNext (span .number)))
+    (stop 8))
     (stop 5)
 
 -- ---- the commit

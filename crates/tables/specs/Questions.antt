@@ -6,15 +6,19 @@ use lib.Dec.{ltb, eqb}
 use lib.ListN.{getD, set, replicate}
 use Rattle.small_float.specs.Class.{value, shownValue, classesInUse}
 use Rattle.ledger.specs.Ledger.{Answer, length-is, reported, classes, refused, numbersFrom}
-use Rattle.ledger.specs.Calls.{Question, SizeOf, Report, FullReport}
-use Rattle.tables.specs.Layout.{dataSize, binNext, word}
+use Rattle.ledger.specs.Calls.{Token, Question, SizeOf, Report, FullReport}
+use Rattle.tables.specs.Layout.{dataOffset, dataSize, binNext, word}
 use Rattle.tables.specs.Words.{Words}
 use Rattle.tables.specs.Search.{highBit}
 use Rattle.tables.specs.HandBack.{isLive}
 
-unfoldable pub lengthOf : Words → ℕ → Answer
+-- as a hand-back: 5, then 8
+unfoldable pub lengthOf : Words → Token → Answer
 unfolding isLive
-lengthOf w r = cond (isLive (w .nodes) (w .count) r) (length-is (word (w .nodes) dataSize r)) (refused 5)
+lengthOf w span =
+    cond (isLive (w .nodes) (w .count) (span .number))
+    (cond (eqb (word (w .nodes) dataOffset (span .number)) (span .offset)) (length-is (word (w .nodes) dataSize (span .number))) (refused 8))
+    (refused 5)
 
 -- ---- storage_report: the highest class, from the leading zeros of the top word and of its leaf byte
 unfoldable pub reportClass : Words → (c : ℕ) → Answer
@@ -72,11 +76,11 @@ fullReportOf w = fullAnswer (countFrom 256 w 0 (replicate 256 0))
 -- ---- every question, and the refusals that each can give once the gate is open
 unfoldable pub toldBy : Words → Question → Answer
 unfolding lengthOf reportOf fullReportOf
-toldBy w (SizeOf span) = lengthOf w (span .number)
+toldBy w (SizeOf span) = lengthOf w span
 toldBy w Report = reportOf w
 toldBy w FullReport = fullReportOf w
 
 abbrev pub mayTell : Question → List ℕ
-mayTell (SizeOf span) = 5 ∷ []
+mayTell (SizeOf span) = 5 ∷ 8 ∷ []
 mayTell Report = 6 ∷ []
 mayTell FullReport = 6 ∷ []

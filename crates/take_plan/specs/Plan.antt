@@ -3,7 +3,7 @@ use mathlib.Core.Path.{_≡_}
 use Prim.Native.Nat.{ℕ, _≤_}
 use Rattle.tables.specs.Take.{TakePlan, stop, whole, split}
 use Rattle.answers.specs.Refusals.{numberOf}
-use Rattle.answers.specs.declared.Refusal.the-variants.{BadCount, TableTooShort, NoSpareRecord, NoRegion, NotLive, Unsound}
+use Rattle.answers.specs.declared.Refusal.the-variants.{BadCount, TableTooShort, NoSpareRecord, NoRegion, NotLive, Unsound, StartsElsewhere}
 use Rattle.bitmap.specs.declared.search.Found.{Found as Search}
 use Rattle.bitmap.specs.declared.search.Found.the-variants.{Lowest, NoClass, BadBits}
 use Rattle.take_plan.specs.declared.Sought.{Sought}
@@ -25,6 +25,7 @@ Seeks spares found (sought.Stop Unsound) = (1 ≤ spares) × (found ≡ BadBits)
 Seeks spares found (sought.Stop BadCount) = ⊥
 Seeks spares found (sought.Stop TableTooShort) = ⊥
 Seeks spares found (sought.Stop NotLive) = ⊥
+Seeks spares found (sought.Stop StartsElsewhere) = ⊥
 
 -- told from the other side: for each number of spares and each search there is one outcome; proofs/Asked.antt makes it
 pub record SeeksMean : Type 0 where

@@ -2,8 +2,7 @@
 use mathlib.Core.Path.{sym, ap, _∙_}
 use borrow.Author.Needs.{needs}
 use Rattle.call_values.specs.declared.call.Call.{Call}
-use Rattle.call_verdicts.specs.declared.Said.{Said}
-use Rattle.answer_rows.specs.Said.{notLiveSaid, refusedSaid}
+use Rattle.answer_rows.specs.Said.{refusedSaid}
 use Rattle.answer_rows.proofs.of_refused.Statement.{statement}
 use Rattle.answer_rows.proofs.of_refused.Tie as tie
 
@@ -28,20 +27,14 @@ of-no-grant-requires c κs = search needs
 enum-known-call-2 : tie.Need-enum-known-call-2
 enum-known-call-2 c = search needs
 
-row-requires : tie.Need-row-requires
-row-requires c κs = search needs
-
-of-not-live-requires : tie.Need-of-not-live-requires
-of-not-live-requires c κs = search needs
+of-no-span-requires : tie.Need-of-no-span-requires
+of-no-span-requires c κs = search needs
 
 enum-known-call-3 : tie.Need-enum-known-call-3
 enum-known-call-3 c = search needs
 
-row-requires-2 : tie.Need-row-requires-2
-row-requires-2 c κs = search needs
-
-of-not-live-requires-2 : tie.Need-of-not-live-requires-2
-of-not-live-requires-2 c κs = search needs
+of-no-span-requires-2 : tie.Need-of-no-span-requires-2
+of-no-span-requires-2 c κs = search needs
 
 enum-told-3 : tie.Need-enum-told-3
 enum-told-3 c = search needs
@@ -80,17 +73,13 @@ returns-3 c =
 
 returns-4 : tie.Need-returns-4
 returns-4 c =
-    let number = c .before .before .before .before .before .args .number in
-    c .of-not-live .ensures
-    ∙ ap (λ (x : Said). notLiveSaid x number) (c .before .row .ensures)
-    ∙ sym (ap (λ (x : Call). refusedSaid x number) (c .before .before .before .call2 .given .1))
+    let number = c .before .before .before .before .args .number in
+    c .of-no-span .ensures ∙ sym (ap (λ (x : Call). refusedSaid x number) (c .before .before .call2 .given .1))
 
 returns-5 : tie.Need-returns-5
 returns-5 c =
-    let number = c .before .before .before .before .before .args .number in
-    c .of-not-live2 .ensures
-    ∙ ap (λ (x : Said). notLiveSaid x number) (c .before .row2 .ensures)
-    ∙ sym (ap (λ (x : Call). refusedSaid x number) (c .before .before .before .call3 .given .1))
+    let number = c .before .before .before .before .args .number in
+    c .of-no-span2 .ensures ∙ sym (ap (λ (x : Call). refusedSaid x number) (c .before .before .call3 .given .1))
 
 returns-6 : tie.Need-returns-6
 returns-6 c = search needs
@@ -115,11 +104,9 @@ of-refused-spec =
     enum-known-call
     of-no-grant-requires
     enum-known-call-2
-    row-requires
-    of-not-live-requires
+    of-no-span-requires
     enum-known-call-3
-    row-requires-2
-    of-not-live-requires-2
+    of-no-span-requires-2
     enum-told-3
     no-row-requires-3
     enum-told-4

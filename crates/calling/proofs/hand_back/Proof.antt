@@ -17,7 +17,7 @@ same-length-2 : tie.Need-same-length-2
 same-length-2 c = search needs
 
 returns : tie.Need-returns
-returns c = record { promised = said-so (c .of-back .ensures) (c .before .before .before .before .before .before .free .ensures) }
+returns c = record { promised = search (needs, said-so) }
 
 pub hand-back-spec : {M : Type 1} → statement M
 hand-back-spec =

@@ -1,6 +1,8 @@
 // The call that is made on a line of the table, its arguments drawn from a seed.
 use crate::spoiled::garbage;
 use call_values::call::Call;
+use call_values::store::RECORDS;
+use records::nodes::DATA_OFFSET;
 
 // The lines of the table that is printed.
 pub const SET_UP: u32 = 0;
@@ -40,6 +42,24 @@ fn handle(seed: u32) -> u32 {
     }
 }
 
+// Where the nodes have this record start; 0 for a record that they have no words for.
+pub fn start_in(nodes: [u32; 144], record: u32) -> u32 {
+    if record < RECORDS + 2 {
+        return nodes[8 * (record as usize) + DATA_OFFSET];
+    }
+    0
+}
+
+// Where a span is said to start: three times in four as the nodes have it, or few calls on spans would be carried out; else 0 or anything.
+fn start(seed: u32, nodes: [u32; 144], record: u32) -> u32 {
+    let drawn = draws::next(seed);
+    match draws::below(seed, 8) {
+        0 => 0,
+        1 => draws::word(drawn),
+        _ => start_in(nodes, record),
+    }
+}
+
 // A full report, of which one class or the number of classes that hold something is compared.
 fn full_report(seed: u32) -> Call {
     if draws::below(seed, 2) == 0 {
@@ -48,14 +68,16 @@ fn full_report(seed: u32) -> Call {
     Call::ClassOf(draws::below(draws::next(seed), 256))
 }
 
-// The audit has no `Call`, and is made apart.
-pub fn call(line: u32, seed: u32) -> Call {
+// On tables with these nodes. Where a span starts is drawn two seeds on, so that it does not go by its record. The audit has no `Call`, and is made apart.
+pub fn call(line: u32, seed: u32, nodes: [u32; 144]) -> Call {
+    let record = handle(seed);
+    let offset = start(draws::next(draws::next(seed)), nodes, record);
     match line {
         SET_UP => Call::SetUp(size(seed), garbage::count(draws::branch(seed, 1))),
         RESET => Call::Reset,
         TAKE => Call::Take(size(seed)),
-        HAND_BACK => Call::HandBack(handle(seed)),
-        SIZE_QUERY => Call::SizeOf(handle(seed)),
+        HAND_BACK => Call::HandBack(offset, record),
+        SIZE_QUERY => Call::SizeOf(offset, record),
         REPORT => Call::Report,
         FULL_REPORT => full_report(seed),
         _ => Call::Nothing,

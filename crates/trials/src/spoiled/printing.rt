@@ -38,7 +38,7 @@ fn plus(m: u64, n: u64) -> u64 {
 fn made(tally: Tally, line: u32) -> u64 {
     let mut sum = 0u64;
     let mut column = 0u32;
-    while column < 9 {
+    while column < 11 {
         sum = plus(sum, tally.calls(line, column));
         column += 1;
     }
@@ -56,6 +56,7 @@ fn row(name: &[u8], tally: Tally, line: u32) {
     cell(tally.calls(line, 4));
     cell(tally.calls(line, 5));
     cell(tally.calls(line, 6));
+    cell(tally.calls(line, 8));
     write(b"\n");
 }
 
@@ -77,7 +78,9 @@ fn last(text: &[u8], n: u64) {
 
 pub fn print(tally: Tally) {
     write(b"                     carried out on  refused by number\n");
-    write(b"call           made unsound   sound       1       2       3       4       5       6\n");
+    write(
+        b"call           made unsound   sound       1       2       3       4       5       6       8\n",
+    );
     row(b"setup      ", tally, arguments::SET_UP);
     row(b"reset      ", tally, arguments::RESET);
     row(b"take       ", tally, arguments::TAKE);

@@ -79,10 +79,12 @@ fn make_audit(tally: Tally, round: Round) -> Tally {
 
 // Every call once, in both forms.
 fn make_calls(tally: Tally, round: Round, seed: u32) -> Tally {
+    let before = round.before;
+    let nodes = before.nodes;
     let mut counted = tally;
     let mut line = 0u32;
     while line < arguments::AUDIT {
-        let call = arguments::call(line, draws::branch(seed, line));
+        let call = arguments::call(line, draws::branch(seed, line), nodes);
         counted = make_call(counted, line, call, round);
         line += 1;
     }

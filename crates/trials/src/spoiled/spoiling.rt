@@ -1,4 +1,5 @@
 // Heads and tables that are not sound, each from a seed: at random, of likely links, or a true store of which a few words are overwritten.
+use crate::spoiled::arguments;
 use crate::spoiled::garbage;
 use call_values::call::Call;
 use call_values::store::Store;
@@ -55,11 +56,12 @@ fn of_links(seed: u32) -> Store {
     }
 }
 
-// A take, or now and then a hand back, in a store of this size.
-fn step(seed: u32, size: u32) -> Call {
+// A take, or now and then a hand back, in a store of this size with these nodes.
+fn step(seed: u32, size: u32, nodes: [u32; 144]) -> Call {
     let drawn = draws::next(seed);
     if draws::below(seed, 3) == 0 {
-        return Call::HandBack(draws::below(drawn, 8));
+        let record = draws::below(drawn, 8);
+        return Call::HandBack(arguments::start_in(nodes, record), record);
     }
     Call::Take(draws::below(drawn, size / 8))
 }
@@ -75,7 +77,8 @@ fn sound(seed: u32) -> Store {
     let mut i = 0u32;
     while i < steps {
         i += 1;
-        let made = calling_on_copies::in_place(step(draws::branch(stem, i), size), store);
+        let nodes = store.nodes;
+        let made = calling_on_copies::in_place(step(draws::branch(stem, i), size, nodes), store);
         store = made.after;
     }
     store

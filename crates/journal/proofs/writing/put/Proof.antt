@@ -25,9 +25,9 @@ put-one-requires c κs =
 enum-known-call-2 : tie.Need-enum-known-call-2
 enum-known-call-2 c = search needs
 
-put-one-requires-2 : tie.Need-put-one-requires-2
+put-two-requires : tie.Need-put-two-requires
 unfolding recordOf bodyOf inFields inBytes
-put-one-requires-2 c κs =
+put-two-requires c κs =
     let given = c .before .before .before .before .before in
     let came : given .args .call ≡ _ = c .before .before .call2 .given .1 in
     let room : given .args .at + length (recordOf (given .args .call)) ≤ length (now (given .args .out)) = given .pre in
@@ -36,9 +36,9 @@ put-one-requires-2 c κs =
 enum-known-call-3 : tie.Need-enum-known-call-3
 enum-known-call-3 c = search needs
 
-put-two-requires : tie.Need-put-two-requires
+put-two-requires-2 : tie.Need-put-two-requires-2
 unfolding recordOf bodyOf inFields inBytes
-put-two-requires c κs =
+put-two-requires-2 c κs =
     let given = c .before .before .before .before .before in
     let came : given .args .call ≡ _ = c .before .before .call3 .given .1 in
     let room : given .args .at + length (recordOf (given .args .call)) ≤ length (now (given .args .out)) = given .pre in
@@ -74,7 +74,7 @@ unfolding recordOf bodyOf inFields inBytes
 returns-2 c =
     let came = c .before .before .before .before .before in
     let given = came .before .before .before .args in
-    c .before .before .put-one2 .ensures
+    c .before .before .put-two .ensures
     ∙ sym (ap (λ (call : Call). sets (now (given .out)) (given .at) (recordOf call)) (came .call2 .given .1))
 
 same-length-3 : tie.Need-same-length-3
@@ -85,7 +85,7 @@ unfolding recordOf bodyOf inFields inBytes
 returns-3 c =
     let came = c .before .before .before .before .before in
     let given = came .before .before .before .args in
-    c .before .before .put-two .ensures
+    c .before .before .put-two2 .ensures
     ∙ sym (ap (λ (call : Call). sets (now (given .out)) (given .at) (recordOf call)) (came .call3 .given .1))
 
 same-length-4 : tie.Need-same-length-4
@@ -106,9 +106,9 @@ put-spec =
     enum-known-call
     put-one-requires
     enum-known-call-2
-    put-one-requires-2
-    enum-known-call-3
     put-two-requires
+    enum-known-call-3
+    put-two-requires-2
     enum-told
     put-front-requires
     same-length

@@ -20,20 +20,20 @@ put-one-requires c κs = search needs
 enum-known-call-2 : tie.Need-enum-known-call-2
 enum-known-call-2 c = search needs
 
-slice-aggregate-put-one-2 : tie.Need-slice-aggregate-put-one-2
-slice-aggregate-put-one-2 c = search needs
-
-put-one-requires-2 : tie.Need-put-one-requires-2
-put-one-requires-2 c κs = search needs
-
-enum-known-call-3 : tie.Need-enum-known-call-3
-enum-known-call-3 c = search needs
-
 slice-aggregate-put-two : tie.Need-slice-aggregate-put-two
 slice-aggregate-put-two c = search needs
 
 put-two-requires : tie.Need-put-two-requires
 put-two-requires c κs = search needs
+
+enum-known-call-3 : tie.Need-enum-known-call-3
+enum-known-call-3 c = search needs
+
+slice-aggregate-put-two-2 : tie.Need-slice-aggregate-put-two-2
+slice-aggregate-put-two-2 c = search needs
+
+put-two-requires-2 : tie.Need-put-two-requires-2
+put-two-requires-2 c κs = search needs
 
 enum-told : tie.Need-enum-told
 enum-told c = search needs
@@ -60,7 +60,7 @@ returns-2 : tie.Need-returns-2
 unfolding textOf
 returns-2 c =
     let told = c .before .before .before .before .before .before .call2 .given .1 in
-    of-text (sym (ap (λ (x : Call). textOf x) told)) (c .before .before .put-one2 .ensures)
+    of-text (sym (ap (λ (x : Call). textOf x) told)) (c .before .before .put-two .ensures)
 
 same-length-3 : tie.Need-same-length-3
 same-length-3 c = search needs
@@ -69,7 +69,7 @@ returns-3 : tie.Need-returns-3
 unfolding textOf
 returns-3 c =
     let told = c .before .before .before .before .before .before .call3 .given .1 in
-    of-text (sym (ap (λ (x : Call). textOf x) told)) (c .before .before .put-two .ensures)
+    of-text (sym (ap (λ (x : Call). textOf x) told)) (c .before .before .put-two2 .ensures)
 
 same-length-4 : tie.Need-same-length-4
 same-length-4 c = search needs
@@ -88,11 +88,11 @@ put-call-spec =
     slice-aggregate-put-one
     put-one-requires
     enum-known-call-2
-    slice-aggregate-put-one-2
-    put-one-requires-2
-    enum-known-call-3
     slice-aggregate-put-two
     put-two-requires
+    enum-known-call-3
+    slice-aggregate-put-two-2
+    put-two-requires-2
     enum-told
     slice-aggregate-put-word
     put-word-requires

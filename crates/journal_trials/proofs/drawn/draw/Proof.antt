@@ -8,11 +8,11 @@ use Rattle.journal_trials.proofs.drawn.draw.Statement.{statement}
 use Rattle.journal_trials.proofs.drawn.draw.Tie as tie
 
 abbrev Inv-loop : tie.InvT-loop
-Inv-loop seed journal₀ calls seed₀ len₀ i₀ journal seed' len i =
+Inv-loop seed journal₀ calls seed₀ len₀ spans₀ i₀ journal seed' len spans i =
     length journal ≡ length journal₀
 
 abbrev μ-loop : tie.MeasureT-loop
-μ-loop seed journal₀ calls seed₀ len₀ i₀ journal seed' len i =
+μ-loop seed journal₀ calls seed₀ len₀ spans₀ i₀ journal seed' len spans i =
     calls - i
 
 below-requires : tie.Need-below-requires Inv-loop μ-loop
@@ -20,6 +20,9 @@ below-requires c κs = search needs
 
 add-calls : tie.Need-add-calls Inv-loop μ-loop
 add-calls c = search needs
+
+at-start-requires : tie.Need-at-start-requires Inv-loop μ-loop
+at-start-requires c κs = search needs
 
 loop-holds : tie.Need-loop-holds Inv-loop μ-loop
 loop-holds c = refl
@@ -29,6 +32,9 @@ next-call-requires c κs = search needs
 
 add-i : tie.Need-add-i Inv-loop μ-loop
 add-i c = search needs
+
+after-requires : tie.Need-after-requires Inv-loop μ-loop
+after-requires c κs = search needs
 
 written-requires : tie.Need-written-requires Inv-loop μ-loop
 written-requires c κs = search needs
@@ -53,9 +59,11 @@ draw-spec =
     μ-loop
     below-requires
     add-calls
+    at-start-requires
     loop-holds
     next-call-requires
     add-i
+    after-requires
     written-requires
     loop-less
     loop-again

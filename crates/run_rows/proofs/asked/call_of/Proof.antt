@@ -55,63 +55,21 @@ returns-4 c =
       sym (c .before .is-row4 .ensures) ∙ c .if4 .taken,
     )
 
-is-row-requires-5 : tie.Need-is-row-requires-5
-is-row-requires-5 c κs = search needs
+hand-back-of-requires : tie.Need-hand-back-of-requires
+hand-back-of-requires c κs = search needs
 
 returns-5 : tie.Need-returns-5
 unfolding callOf
 returns-5 c =
-    let fourth = c .before .before in
-    let third = fourth .before .before in
+    let third = c .before .before .before in
     let second = third .before .before in
     let first = second .before .before in
     rw (
       sym (first .before .is-row .ensures) ∙ first .if1 .left,
       sym (second .before .is-row2 .ensures) ∙ second .if2 .left,
       sym (third .before .is-row3 .ensures) ∙ third .if3 .left,
-      sym (fourth .before .is-row4 .ensures) ∙ fourth .if4 .left,
-      sym (c .before .is-row5 .ensures) ∙ c .if5 .taken,
-    )
-
-is-row-requires-6 : tie.Need-is-row-requires-6
-is-row-requires-6 c κs = search needs
-
-returns-6 : tie.Need-returns-6
-unfolding callOf
-returns-6 c =
-    let fifth = c .before .before in
-    let fourth = fifth .before .before in
-    let third = fourth .before .before in
-    let second = third .before .before in
-    let first = second .before .before in
-    rw (
-      sym (first .before .is-row .ensures) ∙ first .if1 .left,
-      sym (second .before .is-row2 .ensures) ∙ second .if2 .left,
-      sym (third .before .is-row3 .ensures) ∙ third .if3 .left,
-      sym (fourth .before .is-row4 .ensures) ∙ fourth .if4 .left,
-      sym (fifth .before .is-row5 .ensures) ∙ fifth .if5 .left,
-      sym (c .before .is-row6 .ensures) ∙ c .if6 .taken,
-    )
-
-question-of-requires : tie.Need-question-of-requires
-question-of-requires c κs = search needs
-
-returns-7 : tie.Need-returns-7
-unfolding callOf
-returns-7 c =
-    let fifth = c .before .before .before in
-    let fourth = fifth .before .before in
-    let third = fourth .before .before in
-    let second = third .before .before in
-    let first = second .before .before in
-    rw (
-      sym (first .before .is-row .ensures) ∙ first .if1 .left,
-      sym (second .before .is-row2 .ensures) ∙ second .if2 .left,
-      sym (third .before .is-row3 .ensures) ∙ third .if3 .left,
-      sym (fourth .before .is-row4 .ensures) ∙ fourth .if4 .left,
-      sym (fifth .before .is-row5 .ensures) ∙ fifth .if5 .left,
-      sym (c .before .before .is-row6 .ensures) ∙ c .before .if6 .left,
-    ) (c .question-of .ensures)
+      sym (c .before .before .is-row4 .ensures) ∙ c .before .if4 .left,
+    ) (c .hand-back-of .ensures)
 
 pub call-of-spec : {M : Type 1} → statement M
 call-of-spec =
@@ -125,9 +83,5 @@ call-of-spec =
     returns-3
     is-row-requires-4
     returns-4
-    is-row-requires-5
-    returns-5
-    is-row-requires-6
-    returns-6
-    question-of-requires
-    returns-7)
+    hand-back-of-requires
+    returns-5)

@@ -73,10 +73,14 @@ returns-5 c =
       sym (c .before .is-row5 .ensures) ∙ c .if5 .taken,
     )
 
+is-row-requires-6 : tie.Need-is-row-requires-6
+is-row-requires-6 c κs = search needs
+
 returns-6 : tie.Need-returns-6
 unfolding questionOf
 returns-6 c =
-    let fourth = c .before .before in
+    let fifth = c .before .before in
+    let fourth = fifth .before .before in
     let third = fourth .before .before in
     let second = third .before .before in
     let first = second .before .before in
@@ -85,7 +89,25 @@ returns-6 c =
       sym (second .before .is-row2 .ensures) ∙ second .if2 .left,
       sym (third .before .is-row3 .ensures) ∙ third .if3 .left,
       sym (fourth .before .is-row4 .ensures) ∙ fourth .if4 .left,
-      sym (c .before .is-row5 .ensures) ∙ c .if5 .left,
+      sym (fifth .before .is-row5 .ensures) ∙ fifth .if5 .left,
+      sym (c .before .is-row6 .ensures) ∙ c .if6 .taken,
+    )
+
+returns-7 : tie.Need-returns-7
+unfolding questionOf
+returns-7 c =
+    let fifth = c .before .before in
+    let fourth = fifth .before .before in
+    let third = fourth .before .before in
+    let second = third .before .before in
+    let first = second .before .before in
+    rw (
+      sym (first .before .is-row .ensures) ∙ first .if1 .left,
+      sym (second .before .is-row2 .ensures) ∙ second .if2 .left,
+      sym (third .before .is-row3 .ensures) ∙ third .if3 .left,
+      sym (fourth .before .is-row4 .ensures) ∙ fourth .if4 .left,
+      sym (fifth .before .is-row5 .ensures) ∙ fifth .if5 .left,
+      sym (c .before .is-row6 .ensures) ∙ c .if6 .left,
     )
 
 pub question-of-spec : {M : Type 1} → statement M
@@ -102,4 +124,6 @@ question-of-spec =
     returns-4
     is-row-requires-5
     returns-5
-    returns-6)
+    is-row-requires-6
+    returns-6
+    returns-7)

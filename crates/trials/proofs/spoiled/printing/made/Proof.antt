@@ -5,10 +5,10 @@ use Rattle.trials.proofs.spoiled.printing.made.Statement.{statement}
 use Rattle.trials.proofs.spoiled.printing.made.Tie as tie
 
 abbrev Inv-loop : tie.InvT-loop
-Inv-loop tally line sum₀ column₀ sum column = column ≤ 9
+Inv-loop tally line sum₀ column₀ sum column = column ≤ 11
 
 abbrev μ-loop : tie.MeasureT-loop
-μ-loop tally line sum₀ column₀ sum column = 9 - column
+μ-loop tally line sum₀ column₀ sum column = 11 - column
 
 loop-holds : tie.Need-loop-holds Inv-loop μ-loop
 loop-holds c = omega arith

@@ -5,10 +5,10 @@ use Rattle.trials.proofs.spoiled.rounds.make_calls.Statement.{statement
 use Rattle.trials.proofs.spoiled.rounds.make_calls.Tie as tie
 
 abbrev Inv-loop : tie.InvT-loop
-Inv-loop round seed counted₀ line₀ counted line = line ≤ 7
+Inv-loop round seed nodes counted₀ line₀ counted line = line ≤ 7
 
 abbrev μ-loop : tie.MeasureT-loop
-μ-loop round seed counted₀ line₀ counted line = 7 - line
+μ-loop round seed nodes counted₀ line₀ counted line = 7 - line
 
 loop-holds : tie.Need-loop-holds Inv-loop μ-loop
 loop-holds c = omega arith
