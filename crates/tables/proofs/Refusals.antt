@@ -302,48 +302,52 @@ named? w span =
 abbrev FiveAndEight : Answer → (w : Words) → Token → Type 0
 FiveAndEight a w span = ((a ≡ refused 5) ↔ NotLive w (span .number)) × ((a ≡ refused 8) ↔ Elsewhere w span)
 
-back-named : (E : Edition) (w : Words) (span : Token) → Named w span → FiveAndEight (doBack E w (span .number) (planBack w span) .0) w span
+-- so it is of an answer that goes by the two tests
+named-tells : (w : Words) (span : Token) (a : Answer) → Named w span
+    → (isLive (w .nodes) (w .count) (span .number) ≡ false → a ≡ refused 5)
+    → (isLive (w .nodes) (w .count) (span .number) ≡ true → eqb (word (w .nodes) dataOffset (span .number)) (span .offset) ≡ false → a ≡ refused 8)
+    → (isLive (w .nodes) (w .count) (span .number) ≡ true → eqb (word (w .nodes) dataOffset (span .number)) (span .offset) ≡ true
+    → (a ≢ refused 5) × (a ≢ refused 8))
+    → FiveAndEight a w span
+named-tells w span a (dead h t) at-5 at-8 at-none = (
+  (λ e. h, λ x. at-5 t),
+  (λ e. clash (cc (at-5 t)), λ x. absurd (not-both w span (x .0) (x .1) h)),
+)
+named-tells w span a (astray h t u) at-5 at-8 at-none = (
+  (λ e. clash (cc (at-8 t u)), λ x. absurd (not-both w span (h .0) (h .1) x)),
+  (λ e. h, λ x. at-8 t u),
+)
+named-tells w span a (there p h t u) at-5 at-8 at-none = (
+  (λ e. absurd (at-none t u .0 e), λ x. absurd (h x)),
+  (λ e. absurd (at-none t u .1 e), λ x. absurd (x .2 p)),
+)
+
+back-named : (E : Edition) (w : Words) (span : Token) → FiveAndEight (doBack E w (span .number) (planBack w span) .0) w span
 unfolding planBack doBack
-back-named E w span (dead h t) = (
-  (λ a. h, λ x. rw t refl),
-  (λ a. clash (cc (rw t at a)), λ x. absurd (not-both w span (x .0) (x .1) h)),
-)
-back-named E w span (astray h t u) = (
-  (λ a. clash (cc (rw (t, u) at a)), λ x. absurd (not-both w span (h .0) (h .1) x)),
-  (λ a. h, λ x. rw (t, u) refl),
-)
-back-named E w span (there p h t u) = (
-  (λ a. absurd (only-6 5 (λ e. omega arith) (given (6 ∷ []) _ 5 gives (rw (t, u) at a))), λ x. absurd (h x)),
-  (λ a. absurd (only-6 8 (λ e. omega arith) (given (6 ∷ []) _ 8 gives (rw (t, u) at a))), λ x. absurd (x .2 p)),
-)
+back-named E w span = named-tells w span (doBack E w (span .number) (planBack w span) .0) (named? w span)
+    (λ t. rw t refl) (λ t u. rw (t, u) refl)
+    (λ t u. (
+      λ a. only-6 5 (λ e. omega arith) (given (6 ∷ []) _ 5 gives (rw (t, u) at a)),
+      λ a. only-6 8 (λ e. omega arith) (given (6 ∷ []) _ 8 gives (rw (t, u) at a)),
+    ))
   where
     gives : Gives (6 ∷ []) (doBack E w (span .number)
         (planNeighbours w (span .number) (word (w .nodes) neighborPrev (span .number)) (word (w .nodes) neighborNext (span .number))) .0)
     gives = neighbours-give E w (span .number) (word (w .nodes) neighborPrev (span .number)) (word (w .nodes) neighborNext (span .number))
 
-size-named : (w : Words) (span : Token) → Named w span → FiveAndEight (lengthOf w span) w span
+size-named : (w : Words) (span : Token) → FiveAndEight (lengthOf w span) w span
 unfolding lengthOf
-size-named w span (dead h t) = (
-  (λ a. h, λ x. rw t refl),
-  (λ a. clash (cc (rw t at a)), λ x. absurd (not-both w span (x .0) (x .1) h)),
-)
-size-named w span (astray h t u) = (
-  (λ a. clash (cc (rw (t, u) at a)), λ x. absurd (not-both w span (h .0) (h .1) x)),
-  (λ a. h, λ x. rw (t, u) refl),
-)
-size-named w span (there p h t u) = (
-  (λ a. clash (cc (rw (t, u) at a)), λ x. absurd (h x)),
-  (λ a. clash (cc (rw (t, u) at a)), λ x. absurd (x .2 p)),
-)
+size-named w span = named-tells w span (lengthOf w span) (named? w span)
+    (λ t. rw t refl) (λ t u. rw (t, u) refl) (λ t u. (λ a. clash (cc (rw (t, u) at a)), λ a. clash (cc (rw (t, u) at a))))
 
 module _ (E : Edition) (w : Words) (span : Token) (room : Room E (w .count) (length (w .nodes)) (length (w .pile))) where
   back-both : FiveAndEight (answerWords E (HandBack span) w .0) w span
   unfolding behind
-  back-both = rw (call-open E (HandBack span) w room) (back-named E w span (named? w span))
+  back-both = rw (call-open E (HandBack span) w room) (back-named E w span)
 
   size-both : FiveAndEight (answerWords E (Ask (SizeOf span)) w .0) w span
   unfolding behind toldBy
-  size-both = rw (call-open E (Ask (SizeOf span)) w room) (size-named w span (named? w span))
+  size-both = rw (call-open E (Ask (SizeOf span)) w room) (size-named w span)
 
   pub back-5 : (answerWords E (HandBack span) w .0 ≡ refused 5) ↔ NotLive w (span .number)
   back-5 = back-both .0
