@@ -60,7 +60,8 @@ pub record OrderRows : Type 0 where
   pub too-long : readAt (6 ∷ 0 ∷ 4 ∷ 0 ∷ 0 ∷ 0 ∷ 0 ∷ 0 ∷ []) 0 ≡ Refused WrongLength
   -- a hand-back without its offset, and with it: the record, then the offset
   pub record-alone : readAt (6 ∷ 0 ∷ 2 ∷ 0 ∷ 7 ∷ 0 ∷ 0 ∷ 0 ∷ []) 0 ≡ Refused WrongLength
-  pub a-hand-back : readAt (10 ∷ 0 ∷ 2 ∷ 0 ∷ 7 ∷ 0 ∷ 0 ∷ 0 ∷ 9 ∷ 0 ∷ 0 ∷ 0 ∷ []) 0 ≡ Read (HandBack record { offset = 9; metadata = record { 0 = 7 } }) 12
+  pub a-hand-back : readAt (10 ∷ 0 ∷ 2 ∷ 0 ∷ 7 ∷ 0 ∷ 0 ∷ 0 ∷ 9 ∷ 0 ∷ 0 ∷ 0 ∷ []) 0
+      ≡ Read (HandBack record { offset = 9; metadata = record { 0 = 7 } }) 12
   pub a-reset : readAt (9 ∷ 2 ∷ 0 ∷ 4 ∷ 0 ∷ 7 ∷ []) 1 ≡ Read Reset 5
 
 pub record JournalClaims : Type 0 where
@@ -85,7 +86,8 @@ pub record JournalClaims : Type 0 where
   pub cut-short : (bytes : List ℕ) (at : ℕ) → at + 4 ≤ length bytes → length bytes < at + (2 + lengthIn (drop at bytes))
       → readAt bytes at ≡ Refused Cut
   pub length-below-2 : (bytes : List ℕ) (at : ℕ) → Whole bytes at → lengthIn (drop at bytes) < 2 → readAt bytes at ≡ Refused WrongLength
-  pub unknown-kind : (bytes : List ℕ) (at : ℕ) → Whole bytes at → 2 ≤ lengthIn (drop at bytes) → ((c : Call) → kindIn (drop at bytes) ≢ kindOf c)
+  pub unknown-kind : (bytes : List ℕ) (at : ℕ) → Whole bytes at → 2 ≤ lengthIn (drop at bytes)
+      → ((c : Call) → kindIn (drop at bytes) ≢ kindOf c)
       → readAt bytes at ≡ Refused UnknownKind
   pub wrong-length : (bytes : List ℕ) (at : ℕ) (c : Call) → Whole bytes at → 2 ≤ lengthIn (drop at bytes) → kindIn (drop at bytes) ≡ kindOf c
       → 2 + lengthIn (drop at bytes) ≢ length (recordOf c) → readAt bytes at ≡ Refused WrongLength

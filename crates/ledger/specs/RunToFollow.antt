@@ -95,7 +95,8 @@ pub record NearlyRight : Type 0 where
   -- the search from the rounded-down class: a region of 16 would serve 17
   pub rounded-up : Answering 32 6 (takes 16 ∷ takes 17 ∷ takes 16 ∷ []) (granted 0 0 ∷ refused 4 ∷ granted 16 1 ∷ [])
   -- a reset begins anew, record numbers too
-  pub reset-anew : Answering 100 6 (takes 20 ∷ takes 30 ∷ hands-back 0 0 ∷ hands-back 20 1 ∷ Reset ∷ takes 50 ∷ asks-size 0 0 ∷ asks-size 20 1 ∷ [])
+  pub reset-anew : Answering 100 6
+      (takes 20 ∷ takes 30 ∷ hands-back 0 0 ∷ hands-back 20 1 ∷ Reset ∷ takes 50 ∷ asks-size 0 0 ∷ asks-size 20 1 ∷ [])
       (granted 0 0 ∷ granted 20 1 ∷ done ∷ done ∷ done ∷ granted 0 0 ∷ length-is 50 ∷ refused 5 ∷ [])
 
 -- ---- "Zero-length spans are ordinary regions"
@@ -110,7 +111,8 @@ pub record ZeroLength : Type 0 where
 pub record PairsAgree : Type 0 where
   -- "handed back record 12 with another span's address": 8, and nothing changes, so that the span's own offset still serves
   pub another's-offset : Answering 100 6
-      (takes 20 ∷ takes 30 ∷ hands-back 0 1 ∷ hands-back 20 0 ∷ asks-size 0 1 ∷ asks-size 20 1 ∷ hands-back 20 1 ∷ hands-back 0 0 ∷ takes 96 ∷ [])
+      (takes 20 ∷ takes 30 ∷ hands-back 0 1 ∷ hands-back 20 0 ∷ asks-size 0 1
+      ∷ asks-size 20 1 ∷ hands-back 20 1 ∷ hands-back 0 0 ∷ takes 96 ∷ [])
       (granted 0 0 ∷ granted 20 1 ∷ refused 8 ∷ refused 8 ∷ refused 8 ∷ length-is 30 ∷ done ∷ done ∷ granted 0 0 ∷ [])
   -- "it comes after 5": a record that is not live, whatever the offset, its own last one too
   pub after-5 : Answering 100 6
@@ -118,7 +120,8 @@ pub record PairsAgree : Type 0 where
       (granted 0 0 ∷ refused 5 ∷ refused 5 ∷ refused 5 ∷ refused 5 ∷ done ∷ refused 5 ∷ refused 5 ∷ [])
   -- it is the offset that must agree: not the length, not the end, not the record's number
   pub the-offset-alone : Answering 100 6
-      (takes 20 ∷ takes 30 ∷ hands-back 30 1 ∷ hands-back 50 1 ∷ hands-back 1 1 ∷ asks-size 30 1 ∷ asks-size 50 1 ∷ asks-size 1 1 ∷ hands-back 20 1 ∷ [])
+      (takes 20 ∷ takes 30 ∷ hands-back 30 1 ∷ hands-back 50 1 ∷ hands-back 1 1
+      ∷ asks-size 30 1 ∷ asks-size 50 1 ∷ asks-size 1 1 ∷ hands-back 20 1 ∷ [])
       (granted 0 0 ∷ granted 20 1 ∷ refused 8 ∷ refused 8 ∷ refused 8 ∷ refused 8 ∷ refused 8 ∷ refused 8 ∷ done ∷ [])
   -- of two spans at one offset the record tells which
   pub one-offset-twice : Answering 100 6 (takes 0 ∷ takes 20 ∷ hands-back 0 0 ∷ asks-size 0 1 ∷ hands-back 0 0 ∷ hands-back 0 1 ∷ [])

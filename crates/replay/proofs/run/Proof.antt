@@ -6,11 +6,11 @@ use Rattle.replay.proofs.run.Statement.{statement}
 use Rattle.replay.proofs.run.Tie as tie
 
 abbrev Inv-loop : tie.InvT-loop
-Inv-loop buffer₀ out₀ nodes₀ free-nodes₀ bin-indices₀ used-bins₀ shown replay₀ records₀ buffer out nodes free-nodes bin-indices used-bins replay records =
+Inv-loop b₀ o₀ n₀ p₀ h₀ l₀ shown r₀ k₀ buffer out nodes free-nodes bin-indices used-bins replay records =
     Unit {0}
 
 abbrev μ-loop : tie.MeasureT-loop
-μ-loop buffer₀ out₀ nodes₀ free-nodes₀ bin-indices₀ used-bins₀ shown replay₀ records₀ buffer out nodes free-nodes bin-indices used-bins replay records =
+μ-loop b₀ o₀ n₀ p₀ h₀ l₀ shown r₀ k₀ buffer out nodes free-nodes bin-indices used-bins replay records =
     18_446_744_073_709_551_615 - records
 
 is-shown-requires : tie.Need-is-shown-requires Inv-loop μ-loop

@@ -6,10 +6,10 @@ use Rattle.journal_picture.proofs.columns.draw_on.Statement.{statement}
 use Rattle.journal_picture.proofs.columns.draw_on.Tie as tie
 
 abbrev Inv-loop : tie.InvT-loop
-Inv-loop calls bytes heads₀ leaves₀ nodes₀ pile₀ bars₀ out₀ sheet₀ t₀ at₀ made₀ heads leaves nodes pile bars out sheet t at made = made ≤ calls
+Inv-loop calls bytes h₀ l₀ n₀ p₀ b₀ o₀ s₀ t₀ a₀ m₀ heads leaves nodes pile bars out sheet t at made = made ≤ calls
 
 abbrev μ-loop : tie.MeasureT-loop
-μ-loop calls bytes heads₀ leaves₀ nodes₀ pile₀ bars₀ out₀ sheet₀ t₀ at₀ made₀ heads leaves nodes pile bars out sheet t at made = calls - made
+μ-loop calls bytes h₀ l₀ n₀ p₀ b₀ o₀ s₀ t₀ a₀ m₀ heads leaves nodes pile bars out sheet t at made = calls - made
 
 zeros-requires : tie.Need-zeros-requires Inv-loop μ-loop
 zeros-requires c κs = tt
