@@ -58,8 +58,8 @@ fn of_length(call: Call, length: u32) -> Said
     }
 }
 
-// `g CLASS SIZE COUNT`. From class 240 on the Rust's value need not be the port's, which is 0; but no region has such a class, so no row names
-// one.
+// `g CLASS SIZE COUNT`. From class 240 on the Rust's value has lost its high bits and is not the port's; but no region has such a class, so no row
+// names one.
 fn of_regions(value: u64, count: u32) -> Said
     ensures { λ r. ⌜ r ≡ row 103 value count ⌝ }
 {

@@ -28,7 +28,7 @@ fn report_class(t: Totals, c: Class) -> ReportAnswer
     ensures { λ a. ⌜ reportSays a ≡ reportClass (wordsOf t [] [] [] []) (c .0) ⌝ }
 {
     if c.0 < small_float::CLASSES_IN_USE {
-        return figures(t.free_storage, small_float::float_to_uint(c));
+        return figures(t.free_storage, small_float::size_of_class(c));
     }
     ReportAnswer::Refused(Refusal::Unsound)
 }

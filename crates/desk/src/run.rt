@@ -1,5 +1,6 @@
 // Document 01's run to follow, and one call that is not in it, a hand-back with another span's offset: each call with its answer, the report after it
-// and a strip of the store.
+// and a strip of the store; then the full report of the store as it stands at the end.
+use crate::full;
 use crate::strip;
 use crate::text;
 use answers::Allocation;
@@ -157,5 +158,8 @@ pub fn print_run() {
     desk = take(desk, 1, &mut nodes, &mut free_nodes);
     desk = hand_back(desk, 0, 0, &mut nodes, &mut free_nodes);
     desk = hand_back(desk, 98, 3, &mut nodes, &mut free_nodes);
-    hand_back(desk, 50, 2, &mut nodes, &mut free_nodes);
+    desk = hand_back(desk, 50, 2, &mut nodes, &mut free_nodes);
+    text::print(b"\n");
+    let head = desk.head;
+    full::print_report(head.storage_report_full(&nodes, &free_nodes));
 }

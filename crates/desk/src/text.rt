@@ -17,11 +17,15 @@ fn print_spaces(start: usize, end: usize) {
 }
 
 // A number at the right edge of a column; one that is longer than the column is written whole.
-pub fn print_column(n: u32, width: usize) {
+pub fn print_wide_column(n: u64, width: usize) {
     let mut digits = [0u8; 20];
-    let count = io::decimal(n as u64, &mut digits);
+    let count = io::decimal(n, &mut digits);
     print_spaces(count, width);
     print(&digits[..count]);
+}
+
+pub fn print_column(n: u32, width: usize) {
+    print_wide_column(n as u64, width);
 }
 
 // A number at the left edge of a column.

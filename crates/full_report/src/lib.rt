@@ -5,7 +5,7 @@ ghost use mathlib.Core.Path.{_≡_};
 ghost use Prim.Native.Nat.{ℕ, _<_};
 ghost use mathlib.Core.List.{List};
 ghost use lib.ListN.{length, getD, replicate};
-ghost use Rattle.small_float.specs.Class.{shownValue};
+ghost use Rattle.small_float.specs.Class.{value};
 ghost use Rattle.ledger.specs.Ledger.{refused};
 ghost use Rattle.tables.specs.Questions.{listLength, countFrom, fullAnswer};
 ghost use Rattle.answers.specs.Refusals.{numberOf};
@@ -37,16 +37,16 @@ pub fn refuse(why: Refusal) -> FullAnswer
     }
 }
 
-// The value of each class, 0 from class 240 on; 64 bits wide, which holds what a Size does not.
+// The value of each class. From class 240 on it is none that a Size holds, so the column is 64 bits wide.
 fn class_sizes() -> [u64; 256]
-    ensures { λ r. ⌜ (length r ≡ 256) × ((c : ℕ) → c < 256 → getD r c 0 ≡ shownValue c) ⌝ }
+    ensures { λ r. ⌜ (length r ≡ 256) × ((c : ℕ) → c < 256 → getD r c 0 ≡ value c) ⌝ }
 {
     let mut sizes = [0u64; 256];
     let mut c: u32 = 0;
     while c < 256 {
         let value = small_float::float_to_uint(Class(c));
         let i = c as usize;
-        sizes[i] = value.0 as u64;
+        sizes[i] = value;
         c += 1;
     }
     sizes

@@ -20,7 +20,7 @@ use Rattle.ledger.proofs.ReportRule.{report-rule, report-one-spare}
 use Rattle.ledger.proofs.Stretch.{stretch-restores, as-though-never}
 use Rattle.ledger.proofs.ClassGrants.{class-grant}
 use Rattle.ledger.proofs.ClassReturns.{class-return}
-use Rattle.ledger.proofs.FullReport.{full-report}
+use Rattle.ledger.proofs.FullReport.{full-report, last-sixteen}
 use Rattle.ledger.proofs.Fresh.{fresh-grants}
 use Rattle.ledger.proofs.Largest.{none-reaches-by-class, largest-is, largest-none}
 use Rattle.ledger.proofs.ByClass.{class-laws}
@@ -89,6 +89,7 @@ class-claims size count small = record {
   fresh-grants = fresh-grants size count small;
   figures-all = figures-all size count;
   full-report = full-report size count;
+  last-sixteen = last-sixteen size count small;
 }
 
 pub claims : (size count : ℕ) → size < 2 ^ 32 → 2 ≤ count → Claims size count

@@ -1,17 +1,20 @@
 -- The full report counts the free regions of the line, class by class. Assumes nothing.
 use mathlib.Core.Path.{_≡_, refl, ap, _∙_, fun-ext}
-use Prim.Native.Nat.{ℕ, _+_}
+use Prim.Native.Nat.{ℕ, _+_, _^_, _≤_, _<_}
 use native.Mathlib.Omega.{arith}
 use mathlib.Core.Bool.{Bool, true, false, cond, _&&_}
 use mathlib.Core.List.{List, [], _∷_, map}
-use lib.ListN.{length}
+use lib.ListN.{length, drop}
 use lib.Dec.{eqb}
 use Rattle.basics.specs.Sum.{one, is, tally}
-use Rattle.small_float.specs.Class.{down, shownValue}
-use Rattle.ledger.specs.Ledger.{Ledger, Region, live, free, numbersFrom, fullAt, fullOf, Stacks, by-class, stands}
+use Rattle.basics.proofs.Decided.{same, differ, same?}
+use Rattle.small_float.specs.Class.{down, value}
+use Rattle.small_float.specs.LastValues.{lastValues}
+use Rattle.small_float.proofs.Rounding.{down-most}
+use Rattle.ledger.specs.Ledger.{Ledger, Region, live, free, len, numbersFrom, fullAt, fullOf, Stacks, by-class, stands}
 use Rattle.ledger.specs.WellFormed.{WellFormed}
 use Rattle.ledger.specs.Claims.{freeOfClass}
-use Rattle.ledger.proofs.Numbers.{same-length}
+use Rattle.ledger.proofs.Numbers.{same-length, map-numbers}
 
 -- the records of the free regions of class c, in the line's order
 unfoldable pub recordsOf : ℕ → List Region → List ℕ
@@ -41,6 +44,15 @@ records-many c (free n r ∷ rest) = go (eqb c (down n)) (records-many c rest)
     go true e = omega arith
     go false e = omega arith
 
+-- no region enters a class from 240 on
+none-enters : (c : ℕ) (line : List Region) → 240 ≤ c → tally len line < 2 ^ 32 → tally (freeOfClass c) line ≡ 0
+none-enters c [] h small = refl
+none-enters c (live n r ∷ rest) h small = omega (arith, none-enters c rest h (omega arith))
+none-enters c (free n r ∷ rest) h small = elim (same? c (down n)) [
+  | same p e ↦ absurd (omega (arith, down-most n (omega arith)))
+  | differ p e ↦ rw e (omega (arith, none-enters c rest h (omega arith)))
+]
+
 module _ (size count : ℕ) where
   -- a stack is as long as its class has free regions
   pub stack-length : (l : Ledger Stacks) → WellFormed by-class size count l → (c : ℕ) → length (l .index c) ≡ tally (freeOfClass c) (l .line)
@@ -49,6 +61,18 @@ module _ (size count : ℕ) where
       ∙ records-many c (l .line)
 
   pub full-report : (l : Ledger Stacks) → WellFormed by-class size count l
-      → fullOf (l .index) ≡ map (λ c. (shownValue c, tally (freeOfClass c) (l .line))) (numbersFrom 0 256)
+      → fullOf (l .index) ≡ map (λ c. (value c, tally (freeOfClass c) (l .line))) (numbersFrom 0 256)
   unfolding fullOf fullAt
-  full-report l w = ap (λ entry. map entry (numbersFrom 0 256)) (fun-ext (λ c. ap (λ n. (shownValue c, n)) (stack-length l w c)))
+  full-report l w = ap (λ entry. map entry (numbersFrom 0 256)) (fun-ext (λ c. ap (λ n. (value c, n)) (stack-length l w c)))
+
+  pub last-sixteen : size < 2 ^ 32 → (l : Ledger Stacks) → WellFormed by-class size count l
+      → drop 240 (fullOf (l .index)) ≡ map (λ (row : ℕ × ℕ). (row .1, 0)) lastValues
+  unfolding numbersFrom value
+  last-sixteen small l w =
+      ap (drop 240) (full-report l w)
+      ∙ map-numbers
+      (λ c. (value c, tally (freeOfClass c) (l .line)))
+      (λ c. (value c, 0))
+      240
+      16
+      (λ c h k. ap (λ n. (value c, n)) (none-enters c (l .line) h (omega (arith, w .lined .cover))))

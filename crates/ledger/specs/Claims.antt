@@ -7,12 +7,13 @@ use mathlib.Core.Logic.{_↔_, _⊎_, _≢_}
 use mathlib.Core.Bool.{cond}
 use mathlib.Core.Option.{some}
 use mathlib.Core.List.{List, [], _∷_, _++_, map}
-use lib.ListN.{length, getD, replicate}
+use lib.ListN.{length, getD, replicate, drop}
 use lib.Dec.{eqb, ltb}
 use Rattle.basics.specs.Sum.{one, is, tally}
 use Rattle.basics.specs.Extreme.{Least}
-use Rattle.small_float.specs.Class.{down, up, value, shownValue}
+use Rattle.small_float.specs.Class.{down, up, value}
 use Rattle.small_float.specs.Facts.{Serves}
+use Rattle.small_float.specs.LastValues.{lastValues}
 use Rattle.ledger.specs.Ledger.{Engine, by-class, Stacks, Ledger, Region, live, free, len, rec, granted, done, length-is, refused}
 use Rattle.ledger.specs.Ledger.{setup, take, sizeOf, freeLen, report, fullReport, numbersFrom}
 use Rattle.ledger.specs.Calls.{Request, Token, SizeOf, Call, Take, HandBack, Reset, Ask, spanOf, handsBack, answer, end, answers, log}
@@ -263,7 +264,10 @@ pub record ClassClaims (size count : ℕ) : Type 0 where
   pub figures-all : (c : Call) (l : Ledger Stacks) → WellFormed by-class size count l
       → length (figuresOf c (answer by-class size count c l .0)) ≡ figureCount c
   pub full-report : (l : Ledger Stacks) → WellFormed by-class size count l
-      → fullReport by-class l ≡ map (λ c. (shownValue c, tally (freeOfClass c) (l .line))) (numbersFrom 0 256)
+      → fullReport by-class l ≡ map (λ c. (value c, tally (freeOfClass c) (l .line))) (numbersFrom 0 256)
+  -- document 02's values for classes 240 to 255, "which no region enters": so the last sixteen of a full report are always these, with counts of 0
+  pub last-sixteen : (l : Ledger Stacks) → WellFormed by-class size count l
+      → drop 240 (fullReport by-class l) ≡ map (λ (row : ℕ × ℕ). (row .1, 0)) lastValues
 
 -- ---- document 01's ledger
 pub record Claims (size count : ℕ) : Type 0 where

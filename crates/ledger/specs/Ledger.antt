@@ -9,7 +9,7 @@ use mathlib.Core.List.{List, [], _∷_, _++_, map, reverseAux}
 use lib.ListN.{length, getD, drop}
 use lib.Dec.{eqb, ltb}
 use Rattle.basics.specs.Sum.{one, is, tally}
-use Rattle.small_float.specs.Class.{down, up, value, shownValue, classesInUse}
+use Rattle.small_float.specs.Class.{down, up, value, classesInUse}
 
 -- ---- the state
 -- A region: its length and its record number, live or free. Its offset is the sum of the lengths before it.
@@ -106,8 +106,7 @@ numbersFrom r (suc n) = r ∷ numbersFrom (suc r) n
 
 -- "`storage_report_full` gives for classes 0 to 255 the value and the number of free regions"
 unfoldable pub fullAt : Stacks → ℕ → ℕ × ℕ
-unfolding shownValue
-fullAt stacks c = (shownValue c, length (stacks c))
+fullAt stacks c = (value c, length (stacks c))
 
 unfoldable pub fullOf : Stacks → List (ℕ × ℕ)
 unfolding fullAt numbersFrom

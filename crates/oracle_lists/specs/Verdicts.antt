@@ -1,7 +1,7 @@
 -- When a row of the list of size classes agrees with the port, and when it shows a listed difference. Assumes nothing.
 use Prim.Native.Nat.{ℕ, _%_, _^_}
 use mathlib.Core.Bool.{cond}
-use lib.Dec.{eqb, leb, ltb}
+use lib.Dec.{eqb, ltb}
 use Rattle.small_float.specs.Class.{down, up, value, greatestServed}
 use Rattle.oracle_lists.specs.declared.rows.Reader.{Reader}
 use Rattle.oracle_lists.specs.declared.tally.Verdict.{Verdict}
@@ -18,13 +18,10 @@ unfoldable pub sizeVerdict : ℕ → ℕ → ℕ → ℕ → Verdict
 sizeVerdict size d u smallest =
     cond (eqb (down size) d) (cond (eqb (up size) u) (servedVerdict size smallest) Differs) Differs
 
--- a class from 240 on, for which the port gives 0: up to 263 the Rust gives the low 32 bits of the value, some of them 0 too
-unfoldable pub lostVerdict : ℕ → ℕ → Verdict
-lostVerdict class v = cond (ltb 263 class) Differs (cond (eqb (value class % 2 ^ 32) v) Listed Differs)
-
--- a class and its value
+-- a class and its value; the Rust gives the low 32 bits of it, from class 240 on a listed difference. The list has no class above 263
 unfoldable pub classVerdict : ℕ → ℕ → Verdict
-classVerdict class v = cond (leb 240 class) (lostVerdict class v) (cond (eqb (value class) v) Agrees Differs)
+classVerdict class v =
+    cond (ltb 263 class) Differs (cond (eqb (value class) v) Agrees (cond (eqb (value class % 2 ^ 32) v) Listed Differs))
 
 -- a whole row: c and two numbers, or s and four
 unfoldable pub rowVerdict : Reader → Verdict

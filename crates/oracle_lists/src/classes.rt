@@ -1,7 +1,6 @@
 // The list of size classes: what the Rust answers, judged by the port.
 ghost use mathlib.Core.Path.{_≡_};
-ghost use Prim.Native.Nat.{_≤_};
-ghost use Rattle.oracle_lists.specs.Verdicts.{servedVerdict, sizeVerdict, lostVerdict, classVerdict, rowVerdict};
+ghost use Rattle.oracle_lists.specs.Verdicts.{servedVerdict, sizeVerdict, classVerdict, rowVerdict};
 ghost use Rattle.oracle_lists.specs.Comparison.{noBytes, afterByte, afterBytes};
 use crate::rows::Reader;
 use crate::tally::Tally;
@@ -45,34 +44,25 @@ pub fn judge_size(size: u32, down: u32, up: u32, smallest: u32) -> Verdict
     judge_smallest(size, smallest)
 }
 
-// A class from 240 on, for which the port gives 0. Up to class 263 the Rust gives the low 32 bits of the class's value; where those are
-// all 0 the two answers are alike, and the row is listed all the same.
-fn judge_lost(class: u32, value: u32) -> Verdict
-    requires { ⌜ 240 ≤ class ⌝ }
-    ensures { λ r. ⌜ r ≡ lostVerdict class value ⌝ }
-{
-    if 263 < class {
-        return Verdict::Differs;
-    }
-    let whole = ((8 + class % 8) as u64) << ((class / 8 - 1) as u64);
-    if whole % 4294967296 != (value as u64) {
-        return Verdict::Differs;
-    }
-    Verdict::Listed
-}
+// The last class of the list: the Rust gets a higher class's value by a shift of 32 bits or more, which is an error in it.
+const LAST_CLASS: u32 = 263;
 
-// A class with its value, as the Rust gives it.
+// A class with its value, as the Rust gives it: the low 32 bits of the class's value. From class 240 on those are not all of it, and the port gives
+// it whole.
 pub fn judge_class(class: u32, value: u32) -> Verdict
     ensures { λ r. ⌜ r ≡ classVerdict class value ⌝ }
 {
-    if small_float::CLASSES_IN_USE <= class {
-        return judge_lost(class, value);
-    }
-    let port = small_float::float_to_uint(Class(class));
-    if port.0 != value {
+    if LAST_CLASS < class {
         return Verdict::Differs;
     }
-    Verdict::Agrees
+    let port = small_float::float_to_uint(Class(class));
+    if port == value as u64 {
+        return Verdict::Agrees;
+    }
+    if port % 4294967296 == value as u64 {
+        return Verdict::Listed;
+    }
+    Verdict::Differs
 }
 
 // A whole row: `c CLASS VALUE` or `s SIZE DOWN UP SMALLEST`. Any other differs.

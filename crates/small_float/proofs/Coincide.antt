@@ -15,6 +15,10 @@ one-class a b p q = λ i. record { 0 = (p ∙ sym q) i }
 pub one-size : {n : ℕ} (a b : Size) → a .0 ≡ n → b .0 ≡ n → a ≡ b
 one-size a b p q = λ i. record { 0 = (p ∙ sym q) i }
 
+-- a class's value in 64 bits is a number as it stands
+pub one-value : {n : ℕ} (a b : ℕ) → a ≡ n → b ≡ n → a ≡ b
+one-value a b p q = p ∙ sym q
+
 -- an answer to the smallest-store question is given by its number and its figure
 same-answer : (a b : Smallest) → refusalOf a ≡ refusalOf b → storeOf a ≡ storeOf b → a ≡ b
 same-answer (Store s) (Store t) n f = ap Store (λ i. record { 0 = f i })

@@ -1,12 +1,10 @@
 -- Document 01's facts on size classes hold. Assumes nothing.
-use mathlib.Core.Path.{_≡_}
 use Prim.Native.Nat.{ℕ, _^_, _≤_, _<_}
 use native.Mathlib.Omega.{arith}
 use mathlib.Core.Logic.{_↔_}
-use Rattle.basics.proofs.Decided.{below, beyond, below?}
-use Rattle.small_float.specs.Class.{down, up, value, shownValue, greatestServed}
+use Rattle.small_float.specs.Class.{down, up, value, greatestServed}
 use Rattle.small_float.specs.Facts.{Serves, ClassFacts}
-use Rattle.small_float.proofs.Values.{value-lt, value-le, value-239}
+use Rattle.small_float.proofs.Values.{value-lt, value-le, value-below, value-239, value-240, value-496}
 use Rattle.small_float.proofs.Rounding.{down-value, down-largest, down-most, up-value, up-smallest, up-near, up-most}
 use Rattle.small_float.proofs.Rounding.{up-served, up-unserved, reaches, fits}
 
@@ -18,14 +16,6 @@ none-serves s n h k r = omega (arith, up-unserved s h, down-most n k)
 
 down-reaches : (s c : ℕ) → (c ≤ down s) ↔ (value c ≤ s)
 down-reaches s c = (λ h. omega (arith, value-le c (down s) h, down-value s), λ h. down-largest s c h)
-
-shown-own : (c : ℕ) → c ≤ 239 → shownValue c ≡ value c
-unfolding shownValue
-shown-own c h = elim (below? c 240) [ below k e ↦ rw e | beyond k e ↦ absurd (omega arith) ]
-
-shown-none : (c : ℕ) → 240 ≤ c → shownValue c ≡ 0
-unfolding shownValue
-shown-none c h = elim (below? c 240) [ below k e ↦ absurd (omega arith) | beyond k e ↦ rw e ]
 
 pub class-facts : ClassFacts
 class-facts = record {
@@ -45,6 +35,8 @@ class-facts = record {
   serves-exactly = λ n s. down-reaches n (up s);
   smallest-fits = value-of-up;
   none-serves = none-serves;
-  shown-own = shown-own;
-  shown-none = shown-none;
+  in-32-bits = λ c. value-below c 240 (2 ^ 32) value-240;
+  in-64-bits = λ c.
+      let held = value-below c 496 (2 ^ 64) value-496 in
+      (λ h. held .0 (omega arith), λ h. omega (arith, held .1 h));
 }

@@ -1,11 +1,13 @@
--- The argument's order: a size in parts, the values of classes, what rounding gives, document 01's facts and its table.
+-- The argument's order: a size in parts, the values of classes, what rounding gives, document 01's facts, its table and document 02's values.
 -- Straight and Ceiling are the code's way: both roundings without a case for small sizes, and the one that rounds up in signed numbers.
 -- Coincide shows that each contract allows one result only.
 pub mod Parts
 pub mod Values
 pub mod Rounding
 pub mod Facts
+pub mod Rows
 pub mod Table
+pub mod LastValues
 pub mod Straight
 pub mod Ceiling
 pub mod Coincide

@@ -1,8 +1,9 @@
 -- The values of classes: by mantissa and exponent, and that they increase. Assumes nothing.
 use mathlib.Core.Path.{_≡_, refl, ap, ap₂, _∙_}
-use Prim.Native.Nat.{ℕ, zero, suc, _+_, _-_, _*_, _/_, _%_, _^_, _≤_, _<_}
+use Prim.Native.Nat.{ℕ, zero, suc, _+_, _-_, _*_, _/_, _%_, _^_, _≤_, _<_, min}
 use native.Mathlib.Omega.{arith}
-use lib.Pow.{pow-pos}
+use mathlib.Core.Logic.{_↔_}
+use lib.Pow.{pow-pos, shl-exact}
 use Rattle.basics.proofs.Decided.{Same, same, differ, same?, Below, below, beyond, below?}
 use Rattle.small_float.specs.Class.{value}
 
@@ -13,6 +14,10 @@ value-small c h = elim (below? c 8) [ below p e ↦ rw e | beyond p e ↦ absurd
 pub value-large : (c : ℕ) → 8 ≤ c → value c ≡ (8 + c % 8) * 2 ^ (c / 8 - 1)
 unfolding value
 value-large c h = elim (below? c 8) [ below p e ↦ absurd (omega arith) | beyond p e ↦ rw e ]
+
+-- fewer than 16 steps, shifted by their grain in so many bits, lose none of them
+pub shifted-whole : (bits count g c : ℕ) → count * 2 ^ g ≡ value c → count < 16 → g + 4 ≤ bits → (count * 2 ^ g) % 2 ^ bits ≡ value c
+shifted-whole bits count g c e few h = shl-exact {a = count} 4 g bits (omega arith) (omega arith) ∙ e
 
 -- m steps of 2 ^ g; with m = 16 this is the first class of the next exponent
 pub value-at : (g m : ℕ) → 8 ≤ m → m ≤ 16 → value (8 * g + m) ≡ m * 2 ^ g
@@ -69,3 +74,22 @@ value-239 = refl
 pub value-240 : value 240 ≡ 2 ^ 32
 unfolding value
 value-240 = refl
+
+pub value-496 : value 496 ≡ 2 ^ 64
+unfolding value
+value-496 = refl
+
+-- 64 bits hold the value of a class below 496, and of no other
+pub held-in-64 : (c : ℕ) → c < 496 → min (value c) (2 ^ 64 - 1) ≡ value c
+held-in-64 c h = omega (arith, value-lt c 496 h, value-496)
+
+pub beyond-64 : (c : ℕ) → 496 ≤ c → min (value c) (2 ^ 64 - 1) ≡ 2 ^ 64 - 1
+beyond-64 c h = omega (arith, value-le 496 c h, value-496)
+
+-- a class is below another exactly if its value is
+pub value-below : (c d limit : ℕ) → value d ≡ limit → (c < d) ↔ (value c < limit)
+value-below c d limit e = (λ h. omega (arith, e, value-lt c d h), λ h. go (below? c d) h)
+  where
+    go : Below c d → value c < limit → c < d
+    go (below p q) h = p
+    go (beyond p q) h = absurd (omega (arith, e, value-le d c p))

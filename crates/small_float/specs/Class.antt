@@ -42,11 +42,6 @@ value c = cond (ltb c 8) c ((8 + c % 8) * 2 ^ (c / 8 - 1))
 abbrev pub classesInUse : ℕ
 classesInUse = 240
 
--- The value as the port shows it: 0 from class 240 on, which no region enters and whose value no 32-bit number holds.
-unfoldable pub shownValue : ℕ → ℕ
-unfolding value
-shownValue c = cond (ltb c classesInUse) (value c) 0
-
 -- The greatest size that has a class of its own or above it: the value of class 239.
 abbrev pub greatestServed : ℕ
 greatestServed = 4026531840

@@ -4,7 +4,7 @@ use mathlib.Core.Path.{_≡_}
 use Prim.Native.Nat.{ℕ, _-_, _*_, _^_, _≤_, _<_}
 use mathlib.Core.Logic.{_↔_}
 use Rattle.basics.specs.Extreme.{Greatest, Least}
-use Rattle.small_float.specs.Class.{down, up, value, shownValue, greatestServed}
+use Rattle.small_float.specs.Class.{down, up, value, classesInUse, greatestServed}
 
 -- a store of n units, fresh, serves an object of s units: its one region's class reaches the request's
 abbrev pub Serves : ℕ → ℕ → Type 0
@@ -31,6 +31,6 @@ pub record ClassFacts : Type 0 where
   pub serves-exactly : (n s : ℕ) → Serves n s ↔ (value (up s) ≤ n)
   pub smallest-fits : (s : ℕ) → s ≤ greatestServed → value (up s) < 2 ^ 32
   pub none-serves : (s n : ℕ) → greatestServed < s → n < 2 ^ 32 → ¬ Serves n s
-  -- the value that is shown of a class: its own up to 239, 0 from 240 on
-  pub shown-own : (c : ℕ) → c ≤ 239 → shownValue c ≡ value c
-  pub shown-none : (c : ℕ) → 240 ≤ c → shownValue c ≡ 0
+  -- the classes that a region can have are those whose value 32 bits hold; 64 bits hold the values of the classes 0 to 495
+  pub in-32-bits : (c : ℕ) → (c < classesInUse) ↔ (value c < 2 ^ 32)
+  pub in-64-bits : (c : ℕ) → (c ≤ 495) ↔ (value c < 2 ^ 64)

@@ -17,5 +17,5 @@ pub fn min_allocator_size(needed_object_size: crate::Size) -> Smallest
     if GREATEST_SERVED < needed_object_size.0 {
         return Smallest::TooLarge;
     }
-    Smallest::Store(crate::float_to_uint(crate::uint_to_float_round_up(needed_object_size)))
+    Smallest::Store(crate::size_of_class(crate::uint_to_float_round_up(needed_object_size)))
 }

@@ -1,8 +1,8 @@
 // Size classes: small_float.rs of the Rust, and ext.rs in the module ext.
 // A class is a small float of a size: three bits of mantissa under an exponent, so that the classes of one exponent are evenly spaced.
 ghost use mathlib.Core.Path.{_≡_};
-ghost use Prim.Native.Nat.{_≤_};
-ghost use Rattle.small_float.specs.Class.{grain, down, up, shownValue};
+ghost use Prim.Native.Nat.{_-_, _*_, _/_, _^_, _≤_, _<_, min};
+ghost use Rattle.small_float.specs.Class.{grain, down, up, value, classesInUse};
 
 pub mod ext;
 
@@ -17,6 +17,9 @@ pub const MANTISSA_VALUE: u32 = 8;
 
 // The classes that a region can have: the value of each fits in 32 bits, and that of the next does not.
 pub const CLASSES_IN_USE: u32 = 240;
+
+// The classes whose value fits in 64 bits.
+pub const CLASSES_IN_64_BITS: u32 = 496;
 
 // How many low bits of a size its class leaves out: three less than its highest set bit. Bit 3 is set for that, so that a size below 8 leaves none out.
 fn grain_of(size: u32) -> u32
@@ -46,17 +49,48 @@ pub fn uint_to_float_round_down(size: Size) -> Class
     Class(MANTISSA_VALUE * g + (s >> g))
 }
 
-// The value of a class, the least size that rounds down to it; 0 from class 240 on, whose value no Size holds.
-pub fn float_to_uint(class: Class) -> Size
-    ensures { λ r. ⌜ r .0 ≡ shownValue (class .0) ⌝ }
+// A class in parts: so many steps, each of 2^grain units.
+struct Steps {
+    count: u32,
+    grain: u32,
+}
+
+fn steps_of(class: u32) -> Steps
+    ensures value { λ r. ⌜ r .count * 2 ^ r .grain ≡ value «class» ⌝ }
+    ensures bits { λ r. ⌜ (r .count < 16) × (r .grain ≤ «class» / 8 - 1) ⌝ }
+{
+    if class < MANTISSA_VALUE {
+        return Steps {
+            count: class,
+            grain: 0,
+        };
+    }
+    Steps {
+        count: MANTISSA_VALUE + class % MANTISSA_VALUE,
+        grain: class / MANTISSA_VALUE - 1,
+    }
+}
+
+// The value of a class, for every class that a full report shows and many more: 64 bits hold it up to class 495. From class 496 on, where they
+// do not, it is the greatest number that they hold, so that a higher class never has a lower number.
+pub fn float_to_uint(class: Class) -> u64
+    ensures { λ r. ⌜ r ≡ min (value (class .0)) (2 ^ 64 - 1) ⌝ }
 {
     let c = class.0;
-    if c < MANTISSA_VALUE {
-        return Size(c);
+    if CLASSES_IN_64_BITS <= c {
+        return u64::MAX;
     }
-    if CLASSES_IN_USE <= c {
-        return Size(0);
-    }
-    let mantissa = MANTISSA_VALUE + c % MANTISSA_VALUE;
-    Size(mantissa << (c / MANTISSA_VALUE - 1))
+    let steps = steps_of(c);
+    (steps.count as u64) << steps.grain
+}
+
+// The value of a class that a region can have, which is a Size; no higher class's is.
+//
+// Private to the allocator, though Rattle has no word for that: whoever calls it knows its class to be one of these.
+pub fn size_of_class(class: Class) -> Size
+    requires { ⌜ class .0 < classesInUse ⌝ }
+    ensures { λ r. ⌜ r .0 ≡ value (class .0) ⌝ }
+{
+    let steps = steps_of(class.0);
+    Size(steps.count << steps.grain)
 }

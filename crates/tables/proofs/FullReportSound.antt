@@ -1,6 +1,6 @@
 -- The full report on sound words answers as the ledger: each class list is walked to its end. Assumes nothing.
-use mathlib.Core.Path.{_≡_, refl, ap, ap₂, _∙_}
-use mathlib.Core.List.{List, [], _∷_, map}
+use mathlib.Core.Path.{_≡_, refl, ap, _∙_}
+use mathlib.Core.List.{List, [], _∷_}
 use Prim.Native.Nat.{ℕ, zero, suc, _+_, _≤_, _<_}
 use native.Mathlib.Omega.{arith}
 use native.Mathlib.Nat.{zero-add, add-zero}
@@ -11,8 +11,9 @@ use Rattle.basics.proofs.Decided.{same, differ, same?}
 use Rattle.basics.proofs.Sums.{held-first}
 use Rattle.basics.proofs.Counts.{In, in-tail}
 use Rattle.basics.proofs.Pigeons.{pigeons}
-use Rattle.small_float.specs.Class.{shownValue}
-use Rattle.ledger.specs.Ledger.{Ledger, classes, fullOf, fullAt, numbersFrom, Stacks}
+use Rattle.small_float.specs.Class.{value}
+use Rattle.ledger.specs.Ledger.{Ledger, classes, fullOf, fullAt, Stacks}
+use Rattle.ledger.proofs.Numbers.{map-numbers}
 use Rattle.tables.specs.Words.{Words, Edition, bounds}
 use Rattle.tables.specs.Questions.{steps, listLength, counts, noted, countFrom, fullAnswer}
 use Rattle.tables.specs.Linked.{first}
@@ -69,17 +70,11 @@ module _ (E : Edition) (w : Words) (l : Ledger Stacks) (S : Sound E w l) where
         (length-set so-far c (length (l .index c)) ∙ e ∙ omega arith) (omega arith) (omega arith)
   ]
 
-  -- two columns alike on the numbers from r on
-  map-numbers : (f g : ℕ → ℕ × ℕ) (n r : ℕ) → ((c : ℕ) → c < r + n → f c ≡ g c) → map f (numbersFrom r n) ≡ map g (numbersFrom r n)
-  unfolding numbersFrom
-  map-numbers f g zero r h = refl
-  map-numbers f g (suc n) r h = ap₂ {C = List (ℕ × ℕ)} _∷_ (h r (omega arith)) (map-numbers f g n (suc r) (λ c k. h c (omega arith)))
-
   pub full-is : fullAnswer (countFrom 256 w 0 (replicate 256 0)) ≡ classes (fullOf (l .index))
   full-is =
       ap fullAnswer (counted 256 0 (replicate 256 0) refl)
       ∙ unfold fullAnswer fullOf in
-      ap classes (map-numbers (λ c. (shownValue c, getD (lengths 256 0 (replicate 256 0)) c 0)) (fullAt (l .index)) 256 0 row)
+      ap classes (map-numbers (λ c. (value c, getD (lengths 256 0 (replicate 256 0)) c 0)) (fullAt (l .index)) 0 256 row)
     where
-      row : (c : ℕ) → c < 0 + 256 → (shownValue c, getD (lengths 256 0 (replicate 256 0)) c 0) ≡ fullAt (l .index) c
-      row c h = unfold fullAt in λ i. (shownValue c, length-at 256 0 (replicate 256 0) c (length-replicate {A = ℕ} 256 0) (omega arith) h i)
+      row : (c : ℕ) → 0 ≤ c → c < 0 + 256 → (value c, getD (lengths 256 0 (replicate 256 0)) c 0) ≡ fullAt (l .index) c
+      row c low h = unfold fullAt in λ i. (value c, length-at 256 0 (replicate 256 0) c (length-replicate {A = ℕ} 256 0) (omega arith) h i)

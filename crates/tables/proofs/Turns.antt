@@ -1,4 +1,4 @@
--- One turn of each loop of the code: for the full report the walk of one list, the count of all lists, and the values that are shown; what
+-- One turn of each loop of the code: for the full report the walk of one list, the count of all lists, and the values of the classes; what
 -- setup's two loops write. Assumes nothing.
 use mathlib.Core.Path.{_≡_, _∙_}
 use mathlib.Core.List.{List}
@@ -9,7 +9,7 @@ use lib.ListN.{length, getD, set}
 use lib.Seq.{getD-set-same, getD-set-other}
 use borrow.Author.Tests.{lt-ltb, le-ltb}
 use Rattle.basics.proofs.Decided.{Same, same, differ, same?}
-use Rattle.small_float.specs.Class.{shownValue}
+use Rattle.small_float.specs.Class.{value}
 use Rattle.tables.specs.Layout.{binNext, used, word, put}
 use Rattle.tables.specs.Words.{Words}
 use Rattle.tables.specs.Setup.{wiped, piled}
@@ -59,12 +59,12 @@ module _ (w : Words) (c : ℕ) (so-far : List ℕ) where
       let z : 256 - c ≡ 0 = omega arith in
       rw z
 
--- ---- the values that are shown: of one class more
-pub shown-more : (sizes : List ℕ) (c v : ℕ) → c < length sizes → v ≡ shownValue c → ((k : ℕ) → k < c → getD sizes k 0 ≡ shownValue k)
-    → (k : ℕ) → k < c + 1 → getD (set sizes c v) k 0 ≡ shownValue k
-shown-more sizes c v low e below k h = go (same? k c)
+-- ---- the values of the classes: of one class more
+pub value-more : (sizes : List ℕ) (c v : ℕ) → c < length sizes → v ≡ value c → ((k : ℕ) → k < c → getD sizes k 0 ≡ value k)
+    → (k : ℕ) → k < c + 1 → getD (set sizes c v) k 0 ≡ value k
+value-more sizes c v low e below k h = go (same? k c)
   where
-    go : Same k c → getD (set sizes c v) k 0 ≡ shownValue k
+    go : Same k c → getD (set sizes c v) k 0 ≡ value k
     go (same p _) = rw p (getD-set-same sizes c v 0 low ∙ e)
     go (differ p _) = getD-set-other sizes c k v 0 p ∙ below k (omega arith)
 

@@ -4,7 +4,7 @@ use mathlib.Core.List.{List, [], _∷_, map}
 use Prim.Native.Nat.{ℕ, zero, suc, _+_, _*_}
 use lib.Dec.{ltb, eqb}
 use lib.ListN.{getD, set, replicate}
-use Rattle.small_float.specs.Class.{value, shownValue, classesInUse}
+use Rattle.small_float.specs.Class.{value, classesInUse}
 use Rattle.ledger.specs.Ledger.{Answer, length-is, reported, classes, refused, numbersFrom}
 use Rattle.ledger.specs.Calls.{Token, Question, SizeOf, Report, FullReport}
 use Rattle.tables.specs.Layout.{dataOffset, dataSize, binNext, word}
@@ -65,8 +65,8 @@ countFrom (suc k) w c so-far =
     noted (listLength (w .count) (w .nodes) (w .count) (getD (w .binIndices) c 0) 0) (countFrom k w (suc c)) c so-far
 
 unfoldable pub fullAnswer : Counts → Answer
-unfolding shownValue numbersFrom
-fullAnswer (counts l) = classes (map (λ (c : ℕ). (shownValue c, getD l c 0)) (numbersFrom 0 256))
+unfolding numbersFrom
+fullAnswer (counts l) = classes (map (λ (c : ℕ). (value c, getD l c 0)) (numbersFrom 0 256))
 fullAnswer circular = refused 6
 
 unfoldable pub fullReportOf : Words → Answer

@@ -1,16 +1,17 @@
 -- Below c each class has its value. Assumes nothing.
 use Prim.Native.Nat.{ℕ, _≤_, _<_, _-_}
-use mathlib.Core.Path.{_≡_}
+use mathlib.Core.Path.{_≡_, _∙_}
 use lib.ListN.{length, getD, length-set}
-use Rattle.small_float.specs.Class.{shownValue}
-use Rattle.tables.proofs.Turns.{shown-more}
+use Rattle.small_float.specs.Class.{value}
+use Rattle.small_float.proofs.Values.{held-in-64}
+use Rattle.tables.proofs.Turns.{value-more}
 use native.Mathlib.Omega.{arith}
 use borrow.Author.Needs.{needs}
 use Rattle.full_report.proofs.class_sizes.Statement.{statement}
 use Rattle.full_report.proofs.class_sizes.Tie as tie
 
 abbrev Inv-loop : tie.InvT-loop
-Inv-loop sizes₀ c₀ sizes c = (c ≤ 256) × (length sizes ≡ 256) × ((k : ℕ) → k < c → getD sizes k 0 ≡ shownValue k)
+Inv-loop sizes₀ c₀ sizes c = (c ≤ 256) × (length sizes ≡ 256) × ((k : ℕ) → k < c → getD sizes k 0 ≡ value k)
 
 abbrev μ-loop : tie.MeasureT-loop
 μ-loop sizes₀ c₀ sizes c = 256 - c
@@ -23,9 +24,6 @@ float-to-uint-requires c κs = search needs
 
 cast-i : tie.Need-cast-i Inv-loop μ-loop
 cast-i c = search needs
-
-cast-sizes : tie.Need-cast-sizes Inv-loop μ-loop
-cast-sizes c = search needs
 
 mul-sizes : tie.Need-mul-sizes Inv-loop μ-loop
 mul-sizes c = search needs
@@ -41,10 +39,11 @@ loop-less c = search needs
 
 loop-again : tie.Need-loop-again Inv-loop μ-loop
 loop-again c =
-    let at = c .before .before .before in (
+    let at = c .before .before in
+    let value-is = c .float-to-uint .ensures ∙ held-in-64 _ (omega arith) in (
       omega arith,
       simp length-set (at .loop .inv .1),
-      shown-more (at .loop .sizes) (at .loop .c) _ (omega arith) (c .before .float-to-uint .ensures) (at .loop .inv .2),
+      value-more (at .loop .sizes) (at .loop .c) _ (omega arith) value-is (at .loop .inv .2),
     )
 
 returns : tie.Need-returns Inv-loop μ-loop
@@ -59,7 +58,6 @@ class-sizes-spec =
     loop-holds
     float-to-uint-requires
     cast-i
-    cast-sizes
     mul-sizes
     array-write-sizes
     add-c
