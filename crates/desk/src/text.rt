@@ -24,6 +24,7 @@ pub fn print_wide_column(n: u64, width: usize) {
     print(&digits[..count]);
 }
 
+// The same of a number of 32 bits.
 pub fn print_column(n: u32, width: usize) {
     print_wide_column(n as u64, width);
 }

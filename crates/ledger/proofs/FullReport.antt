@@ -1,4 +1,4 @@
--- The full report counts the free regions of the line, class by class. Assumes nothing.
+-- The full report counts the free regions of the line, class by class, and none in the last sixteen. Assumes nothing.
 use mathlib.Core.Path.{_≡_, refl, ap, _∙_, fun-ext}
 use Prim.Native.Nat.{ℕ, _+_, _^_, _≤_, _<_}
 use native.Mathlib.Omega.{arith}
