@@ -39,4 +39,5 @@ class-facts = record {
   in-64-bits = λ c.
       let held = value-below c 496 (2 ^ 64) value-496 in
       (λ h. held .0 (omega arith), λ h. omega (arith, held .1 h));
+  in-order = λ c d h. omega (arith, value-le c d h);
 }

@@ -1,7 +1,7 @@
 -- What document 01 says of size classes, and what the layers above rely on: one record, which proofs/Facts.antt makes.
 -- Each fact is over all numbers, or over those that the sentence names. Assumes nothing.
 use mathlib.Core.Path.{_≡_}
-use Prim.Native.Nat.{ℕ, _-_, _*_, _^_, _≤_, _<_}
+use Prim.Native.Nat.{ℕ, _-_, _*_, _^_, _≤_, _<_, min}
 use mathlib.Core.Logic.{_↔_}
 use Rattle.basics.specs.Extreme.{Greatest, Least}
 use Rattle.small_float.specs.Class.{down, up, value, classesInUse, greatestServed}
@@ -34,3 +34,5 @@ pub record ClassFacts : Type 0 where
   -- the classes that a region can have are those whose value 32 bits hold; 64 bits hold the values of the classes 0 to 495
   pub in-32-bits : (c : ℕ) → (c < classesInUse) ↔ (value c < 2 ^ 32)
   pub in-64-bits : (c : ℕ) → (c ≤ 495) ↔ (value c < 2 ^ 64)
+  -- with the greatest number of 64 bits for a value that they do not hold, no higher class has a lower number
+  pub in-order : (c d : ℕ) → c ≤ d → min (value c) (2 ^ 64 - 1) ≤ min (value d) (2 ^ 64 - 1)
