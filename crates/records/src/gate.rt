@@ -17,7 +17,8 @@ pub enum Gate {
 
 // A count out of its limits is refused as `bad_count`, a table too short for it as too short.
 pub fn test(max_allocs: u32, nodes: &[u32], free_nodes: &[u32], bad_count: Refusal) -> Gate
-    ensures { λ g. ⌜ gateNumber g ≡ gate edition32 (numberOf «bad_count») «max_allocs» (length (now (nodes .entry))) (length (now («free_nodes» .entry))) ⌝ }
+    ensures { λ g. ⌜ gateNumber g
+        ≡ gate edition32 (numberOf «bad_count») «max_allocs» (length (now (nodes .entry))) (length (now («free_nodes» .entry))) ⌝ }
 {
     if max_allocs < 2 {
         return Gate::Shut(bad_count);

@@ -55,7 +55,8 @@ circular-6 E w c l h room =
 
 -- ---- and nothing else ends it so
 -- a walk that is lost met a record at every step
-lost-walks : (fuel : ℕ) (nodes : List ℕ) (count a n : ℕ) → listLength fuel nodes count a n ≡ lost → (k : ℕ) → k ≤ fuel → along nodes a k < count
+lost-walks : (fuel : ℕ) (nodes : List ℕ) (count a n : ℕ) → listLength fuel nodes count a n ≡ lost
+    → (k : ℕ) → k ≤ fuel → along nodes a k < count
 unfolding listLength along
 lost-walks zero nodes count a n e k l = go k l (below? a count)
   where

@@ -81,7 +81,8 @@ module _ (E : Edition) (w : Words) (span : Token) where
       ap (λ (u : Words). (done, u)) (f ∙ ap (λ (n : ℕ). merging (bounds E w) w n p x p-free x-free m) same)
       ∙ ap (λ (h : BackPlan). doBack E w (span .number) h) (sym e)
 
-pub merge-ready : (w : Words) (span : Token) {q p x : ℕ} {p-free x-free : Bool} {m : Merged} → q ≡ span .number → planBack w span ≡ merge p x p-free x-free m
+pub merge-ready : (w : Words) (span : Token) {q p x : ℕ} {p-free x-free : Bool} {m : Merged} → q ≡ span .number
+    → planBack w span ≡ merge p x p-free x-free m
     → MergeGuards w q p x p-free x-free m
 merge-ready w span {p = p} {x = x} {p-free = p-free} {x-free = x-free} {m = m} same e =
     subst (λ (n : ℕ). MergeGuards w n p x p-free x-free m) (sym same) (subst (λ (h : BackPlan). BackGuards w (span .number) h) e (back-guards w span))

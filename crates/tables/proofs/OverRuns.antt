@@ -64,9 +64,9 @@ module _ (E : Edition) where
       (call-well by-class class-laws size count two c l f) (this .1) in
       (ap₂ {C = List Answer} _∷_ (this .0) (rest .0), ap₂ {C = List Event} _∷_ (ap (event c) (this .0)) (rest .1), rest .2)
 
-  -- on any words the log has the calls and the answers
   -- words that stand for one ledger answer alike for ever, whatever their spare records hold
-  pub alike : (w v : Words) (l : Ledger Stacks) → Sound E w l → Sound E v l → (cs : List Call) → answers (answerWords E) cs w ≡ answers (answerWords E) cs v
+  pub alike : (w v : Words) (l : Ledger Stacks) → Sound E w l → Sound E v l → (cs : List Call)
+      → answers (answerWords E) cs w ≡ answers (answerWords E) cs v
   alike w v l S T cs =
       run-sound (w .size) (w .count) (S .room .tables .count-low) cs w l (S .well) S .0
       ∙ sym (run-sound (w .size) (w .count) (S .room .tables .count-low) cs v l (S .well) T .0)
