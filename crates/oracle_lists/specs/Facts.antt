@@ -9,10 +9,11 @@ use lib.ListN.{length, getD}
 use Rattle.oracle_lists.specs.declared.rows.State.the-variants.{Within}
 use Rattle.oracle_lists.specs.declared.rows.Reader.{Reader}
 use Rattle.oracle_lists.specs.declared.tally.Tally.{Tally}
+use Rattle.oracle_lists.specs.declared.tally.Verdict.the-variants.{Agrees, Listed, Differs}
 use Rattle.oracle_lists.specs.declared.classes.Comparison.{Comparison}
 use Rattle.oracle_lists.specs.Rows.{fresh, ended, fedAll, endsWell}
 use Rattle.oracle_lists.specs.Tally.{counted}
-use Rattle.oracle_lists.specs.Verdicts.{rowVerdict}
+use Rattle.oracle_lists.specs.Verdicts.{classVerdict, rowVerdict}
 use Rattle.oracle_lists.specs.Comparison.{noBytes, afterBytes}
 
 -- a text is a number in decimal
@@ -59,6 +60,16 @@ rowText letter text = letter ∷ (text ++ (10 ∷ []))
 abbrev pub rowRead : ℕ → List ℕ → Reader
 rowRead letter ns = ended (withNumbers (fresh Within letter) ns)
 
+-- rows of the class list, judged: the last class in use agrees; from 240 on the low 32 bits are listed and nothing else is; above 263 nothing is
+pub record ClassRows : Type 0 where
+  pub last-in-use : classVerdict 239 4_026_531_840 ≡ Agrees
+  pub not-its-value : classVerdict 239 4_026_531_839 ≡ Differs
+  pub none-left : classVerdict 240 0 ≡ Listed
+  pub some-left : classVerdict 241 536_870_912 ≡ Listed
+  pub not-what-is-left : classVerdict 241 536_870_913 ≡ Differs
+  pub last-of-the-list : classVerdict 263 2_147_483_648 ≡ Listed
+  pub behind-the-list : classVerdict 264 0 ≡ Differs
+
 pub record ListFacts : Type 0 where
   -- a letter, up to four numbers and a newline are read as that row
   pub row-read : (r : Reader) (letter : ℕ) {text ns : List ℕ}
@@ -90,6 +101,7 @@ pub record ListFacts : Type 0 where
       → length ns ≤ 4
       → afterBytes p (rowText letter text)
       ≡ record { reader = rowRead letter ns; tally = counted (p .tally) (rowVerdict (rowRead letter ns)) }
+  pub class-rows : ClassRows
   -- what a tally that adds up says of its counters: neither less nor more
   pub adds-up-exactly : (t : Tally) → AddsUp t ↔ ((t .agreed + t .listed + t .other ≡ t .rows) × ((t .first ≡ 0) ↔ (t .other ≡ 0)))
   -- a tally that adds up and names no row hides none: all its rows agreed or are listed; and where they all do, it names none

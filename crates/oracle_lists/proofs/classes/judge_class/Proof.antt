@@ -1,5 +1,5 @@
 -- Up to class 263 the port gives the value itself. Assumes nothing.
-use Prim.Native.Nat.{ℕ, _-_, _%_, _^_, _≤_, min}
+use Prim.Native.Nat.{ℕ, _-_, _%_, _^_, _≤_, _<_, min}
 use mathlib.Core.Path.{_≡_, _∙_}
 use mathlib.Core.Logic.{_≢_}
 use native.Mathlib.Omega.{arith}
@@ -29,9 +29,12 @@ module _ (c port v : ℕ) (e : port ≡ min (value c) (2 ^ 64 - 1)) (h : c ≤ 2
   unfolding classVerdict
   differs n p = rw (le-ltb 263 c h, ← is-value, ne-eqb _ _ n, ne-eqb _ _ p)
 
-returns : tie.Need-returns
+beyond : (c v : ℕ) → 263 < c → Differs ≡ classVerdict c v
 unfolding classVerdict
-returns c = rw (lt-ltb _ _ (c .if1 .taken))
+beyond c v h = rw (lt-ltb 263 c h)
+
+returns : tie.Need-returns
+returns c = beyond _ _ (omega (arith, c .if1 .taken))
 
 float-to-uint-requires : tie.Need-float-to-uint-requires
 float-to-uint-requires c κs = search needs
@@ -39,17 +42,17 @@ float-to-uint-requires c κs = search needs
 returns-2 : tie.Need-returns-2
 returns-2 c =
     let port = c .before .float-to-uint in
-    agrees _ _ _ (port .ensures) (c .before .before .if1 .left) (c .if2 .taken)
+    agrees _ _ _ (port .ensures) (omega (arith, c .before .before .if1 .left)) (c .if2 .taken)
 
 returns-3 : tie.Need-returns-3
 returns-3 c =
     let port = c .before .before .float-to-uint in
-    listed _ _ _ (port .ensures) (c .before .before .before .if1 .left) (c .before .if2 .left) (c .if3 .taken)
+    listed _ _ _ (port .ensures) (omega (arith, c .before .before .before .if1 .left)) (c .before .if2 .left) (c .if3 .taken)
 
 returns-4 : tie.Need-returns-4
 returns-4 c =
     let port = c .before .before .float-to-uint in
-    differs _ _ _ (port .ensures) (c .before .before .before .if1 .left) (c .before .if2 .left) (c .if3 .left)
+    differs _ _ _ (port .ensures) (omega (arith, c .before .before .before .if1 .left)) (c .before .if2 .left) (c .if3 .left)
 
 pub judge-class-spec : {M : Type 1} → statement M
 judge-class-spec =
