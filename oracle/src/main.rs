@@ -10,6 +10,9 @@ mod journal_long;
 mod journal_room;
 mod journal_runs;
 mod long_runs;
+mod packet_day;
+mod packet_speed;
+mod packets;
 mod panics;
 mod regions;
 mod replay;
@@ -46,7 +49,10 @@ usage: oracle COMMAND
   journal-room   records written at each place of short buffers
   damaged N      a digest of the replays of N damaged journals
   journal-long CALLS
-                 a journal of so many seeded takes and returns, to be timed";
+                 a journal of so many seeded takes and returns, to be timed
+  packets        a seeded day of packets in two stores: digests, counts and what differed
+  packets-speed TURNS
+                 the time of a packet's turns beside the bare calls and copies";
 
 fn main() -> ExitCode {
     let arguments: Vec<String> = std::env::args().skip(1).collect();
@@ -90,6 +96,8 @@ fn write(out: &mut impl Write, arguments: &[&str]) -> Option<io::Result<()>> {
         ["journal-cases", "lines"] => journal_cases::write_lines(out),
         ["damaged", journals] => damaged::write(out, number(journals)?),
         ["journal-long", calls] => journal_long::write(out, number(calls)?),
+        ["packets"] => packet_day::write(out),
+        ["packets-speed", turns] => packet_speed::write(out, number(turns)?),
         _ => return None,
     })
 }

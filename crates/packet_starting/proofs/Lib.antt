@@ -1,0 +1,2 @@
+-- NoneLeft: a refused setup of both.
+pub mod NoneLeft
