@@ -5,7 +5,7 @@ use Rattle.packets.specs.Stores.{Two}
 use Rattle.packets.specs.Calls.{PacketCall, Answered}
 use Rattle.packets.specs.Promise.{PacketPromise}
 use Rattle.packets.specs.Claims.{PacketClaims}
-use Rattle.packets.proofs.Told.{read-is, length-is-told, read-none, length-none, fill-done, fill-17, fill-none, never-9}
+use Rattle.packets.proofs.Told.{read-is, length-is-told, read-none, length-none, fill-done, fill-17, fill-none, back-done, back-none, never-9}
 use Rattle.packets.proofs.AsFilled.{as-filled, not-after-return, no-length-after-return}
 use Rattle.packets.proofs.BareSetups.{set-up-bare, set-up-both-bare}
 use Rattle.packets.proofs.AsNever.{as-never}
@@ -30,6 +30,8 @@ claims E = record {
   fill-done = fill-done E;
   fill-17 = fill-17 E;
   fill-none = fill-none E;
+  back-done = back-done E;
+  back-none = back-none E;
   never-9 = never-9 E;
   set-up-bare = set-up-bare E;
   set-up-both-bare = set-up-both-bare E;

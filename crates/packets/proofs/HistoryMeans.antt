@@ -127,6 +127,14 @@ module _ (span : Token) where
     | two-spans p f ↦ rw f (ap (λ (hs : List Held). g ∷ hs) (refill-first new front back h (none-before .1) e))
   ]
 
+  first-is : (held : List Held) (f : FirstOf span held)
+      → (contents span held ≡ some (f .packet-held .bytes)) × (strike span held ≡ f .front ++ f .back) × Lacks span (f .front)
+  first-is held f = (
+    ap (contents span) (f .list-is) ∙ contents-first (f .front) (f .back) (f .packet-held) (f .none-before) (f .its-span),
+    ap (strike span) (f .list-is) ∙ strike-first (f .front) (f .back) (f .packet-held) (f .none-before) (f .its-span),
+    f .none-before,
+  )
+
   contents-lacks : (held : List Held) → Lacks span held → contents span held ≡ none
   unfolding contents
   contents-lacks [] l = refl
@@ -186,6 +194,7 @@ history-means = record {
   grant-shut-out = grant-shut-out;
   only-grants = only-grants;
   lacks-or-first = lacks-or-first;
+  first-is = first-is;
   contents-first = contents-first;
   strike-first = strike-first;
   refill-first = refill-first;

@@ -4,8 +4,8 @@
 -- HandBacks, Takes: each of them. TwoStores: every call over both. BareSetups: a setup begins bare. RunStands: every run. Told: what is answered after
 -- it. Since: one packet along a history. AsFilled: what is read of it. ShortStores, BytesInside: 9, 17 and lengths, on any words. TakeAnswers: what a
 -- take's answer says of each store's take. StretchCalls, StretchRuns: a stretch, store by store. StoreTwins: stores that stand for one ledger; CallTwins,
--- SetupTwins, RunTwins: what is told of them is the same. AsNever: demand 3. Claims: all that is claimed. RunsMean, HistoryMeans: the words of the claims,
--- from the other side. OneValue: numbers and answers likewise. AllRows: the rows computed, under a name that comes first, so that a wrong definition is
+-- SetupTwins, RunTwins: what is told of them is the same. AsNever: demand 3. Claims: all that is claimed. RunsMean, HistoryMeans, PromiseMeans: the
+-- words of the claims and of the promises, from the other side. OneValue: numbers and answers likewise. AllRows: the rows computed, under a name that comes first, so that a wrong definition is
 -- refused there.
 pub mod Parts
 pub mod Steps
@@ -40,5 +40,6 @@ pub mod AsNever
 pub mod Claims
 pub mod RunsMean
 pub mod HistoryMeans
+pub mod PromiseMeans
 pub mod OneValue
 pub mod AllRows

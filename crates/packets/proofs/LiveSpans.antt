@@ -59,20 +59,30 @@ told-none {size} {count} l w span h = go (live-case by-class w (span .offset) (s
     go (is-elsewhere n before after b p e q) = inr q
     go (not-live v e q) = inl q
 
--- ---- a hand-back: refused, or of a live span and done
-pub back-done : {size count : ℕ} (l : Ledger Stacks) → WellFormed by-class size count l → (span : Token)
-    → ((k : ℕ) × (answer by-class size count (HandBack span) l .0 ≡ refused k))
+length-is-no-refusal : {n k : ℕ} → length-is n ≡ refused k → ⊥
+length-is-no-refusal e = clash (cc)
+
+-- where the question is refused the span is not live
+refused-not-live : {size count : ℕ} (l : Ledger Stacks) → WellFormed by-class size count l → (span : Token) (k : ℕ)
+    → answer by-class size count (Ask (SizeOf span)) l .0 ≡ refused k → (n : ℕ) → ¬ LiveAt span n l
+refused-not-live l w span k q n a = length-is-no-refusal (sym (told-length l w span n a) ∙ q)
+
+-- ---- a hand-back: of a live span and done, or of none and refused as 5 or 8
+abbrev BackDone : (size count : ℕ) → Ledger Stacks → Token → Type 0
+BackDone size count l span =
+    ((k : ℕ) × ((k ≡ 5) ⊎ (k ≡ 8)) × ((n : ℕ) → ¬ LiveAt span n l) × (answer by-class size count (HandBack span) l .0 ≡ refused k))
     ⊎ ((n : ℕ) × LiveAt span n l × (answer by-class size count (HandBack span) l .0 ≡ done))
-unfolding answer
+
+pub back-done : {size count : ℕ} (l : Ledger Stacks) → WellFormed by-class size count l → (span : Token) → BackDone size count l span
+unfolding answer told
 back-done {size} {count} l w span = go (live-case by-class w (span .offset) (span .number))
   where
-    go : LiveCase by-class (span .offset) (span .number) l
-        → ((k : ℕ) × (answer by-class size count (HandBack span) l .0 ≡ refused k))
-        ⊎ ((n : ℕ) × LiveAt span n l × (answer by-class size count (HandBack span) l .0 ≡ done))
+    go : LiveCase by-class (span .offset) (span .number) l → BackDone size count l span
     go (is-live n before after b p e q) =
         inr (n, subst (λ (i : ℕ). At (live n (span .number)) i (l .line)) p (between-at b), ap (λ (x : Answer × Ledger Stacks). x .0) e)
-    go (is-elsewhere n before after b p e q) = inl (8, ap (λ (x : Answer × Ledger Stacks). x .0) e)
-    go (not-live v e q) = inl (5, ap (λ (x : Answer × Ledger Stacks). x .0) e)
+    go (is-elsewhere n before after b p e q) =
+        inl (8, inr refl, refused-not-live l w span 8 q, ap (λ (x : Answer × Ledger Stacks). x .0) e)
+    go (not-live v e q) = inl (5, inl refl, refused-not-live l w span 5 q, ap (λ (x : Answer × Ledger Stacks). x .0) e)
 
 -- ---- a take: refused, or granted
 pub take-done : {size count : ℕ} (l : Ledger Stacks) → WellFormed by-class size count l → (asked : Request)

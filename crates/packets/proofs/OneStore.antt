@@ -34,8 +34,8 @@ pub data FillCase (E : Edition) (k : Kept) (held : List Held) (span : Token) (ne
   fills-not : (c : ℕ) → contents span held ≡ none → NotOut k c → FillCase E k held span new (refused c, k)
 
 pub data BackCase (E : Edition) (k : Kept) (held : List Held) (span : Token) : Answer × Kept → Type 0 where
-  gives : {next : Kept} → Stood E next (strike span held) → BackCase E k held span (done, next)
-  gives-not : (c : ℕ) → c ≢ 9 → BackCase E k held span (refused c, k)
+  gives : {bytes : List ℕ} {next : Kept} → contents span held ≡ some bytes → Stood E next (strike span held) → BackCase E k held span (done, next)
+  gives-not : (c : ℕ) → contents span held ≡ none → NotOut k c → BackCase E k held span (refused c, k)
 
 pub data TakeCase (E : Edition) (k : Kept) (held : List Held) (asked : Request) : Answer × Kept → Type 0 where
   takes : {next : Kept} (o r : ℕ) → contents (spanOf o r) held ≡ none

@@ -31,6 +31,11 @@ pub unlisted : {bytes : List ℕ} {l : Ledger Stacks} {span : Token} {c : Option
 unlisted (listed n a e) h = absurd (h n a)
 unlisted (not-listed k) h = refl
 
+pub is-listed : {bytes : List ℕ} {l : Ledger Stacks} {span : Token} {c : Option (List ℕ)} {n : ℕ} → Agrees bytes l span c → LiveAt span n l
+    → (held : List ℕ) × (c ≡ some held)
+is-listed (listed {held} m a e) b = (held, refl)
+is-listed {n = n} (not-listed h) b = absurd (h n b)
+
 -- ---- a store whose words stand for the ledger l, with the packets of this list out of it
 pub record Shelved (E : Edition) (k : Kept) (l : Ledger Stacks) (held : List Held) : Type 0 where
   pub sound : Sound E (k .words) l

@@ -1,4 +1,4 @@
--- After any run from bare stores: what a read, a question for a length and a fill answer, by the history; and no call gives 9. Assumes nothing.
+-- After any run from bare stores: what a read, a question for a length, a fill and a hand-back answer, by the history; and no call gives 9. Assumes nothing.
 use mathlib.Core.Path.{_≡_, refl, sym, ap, subst, _∙_}
 use mathlib.Core.Logic.{inl, inr, _≢_}
 use mathlib.Core.Bool.{Bool, false, cond}
@@ -13,15 +13,17 @@ use Rattle.ledger.specs.Calls.{Token}
 use Rattle.tables.specs.Words.{Edition}
 use Rattle.packets.specs.declared.Store.{Store}
 use Rattle.packets.specs.Stores.{Kept, Two, at}
-use Rattle.packets.specs.OneStore.{shownBy, readIn, lengthIn, fillIn}
-use Rattle.packets.specs.Calls.{PacketCall, Fill, Read, LengthOf, Answered, shows, plain, tooShort, nine, on, packetWords}
+use Rattle.packets.specs.OneStore.{shownBy, readIn, lengthIn, fillIn, handBackIn}
+use Rattle.packets.specs.Calls.{PacketCall, HandBack, Fill, Read, LengthOf, Answered, shows, plain, tooShort, nine, on, packetWords}
 use Rattle.packets.specs.Promise.{PacketPromise}
 use Rattle.packets.specs.Runs.{Happened, PacketRun}
 use Rattle.packets.specs.Shelf.{Held, contents, shelf}
 use Rattle.packets.specs.Claims.{AllBare, CannotBeRead}
 use Rattle.packets.proofs.OneStore.{NotOut, LengthCase, tells, tells-not, FillCase, fills, too-many, fills-not}
+use Rattle.packets.proofs.OneStore.{BackCase, gives, gives-not}
 use Rattle.packets.proofs.Lengths.{length-case, read-from}
 use Rattle.packets.proofs.Fills.{fill-case}
+use Rattle.packets.proofs.HandBacks.{back-case}
 use Rattle.packets.proofs.TwoStores.{not-short}
 use Rattle.packets.proofs.RunStands.{run-from-bare, store-stands, promise-follows}
 
@@ -79,6 +81,16 @@ module _ (E : Edition) where
   fill-ends-none (too-many is more) c = not-both is c
   fill-ends-none {k} (fills-not n is why) c = cannot k n why
 
+  back-ends-done : {k : Kept} {held : List Held} {span : Token} {x : Answer × Kept} {bytes : List ℕ} → BackCase E k held span x
+      → contents span held ≡ some bytes → x .0 ≡ done
+  back-ends-done (gives is next) c = refl
+  back-ends-done (gives-not n is why) c = not-both c is
+
+  back-ends-none : {k : Kept} {held : List Held} {span : Token} {x : Answer × Kept} → BackCase E k held span x → contents span held ≡ none
+      → CannotBeRead k (plain (x .0))
+  back-ends-none (gives is next) c = not-both is c
+  back-ends-none {k} (gives-not n is why) c = cannot k n why
+
   -- ---- what is answered where no store is too short
   read-answer : {t u : Two} {s : Store} {span : Token} {a : Answered} → tooShort t ≡ false → PacketPromise E (Read s span) t u a
       → a ≡ shows (readIn E span (at s t))
@@ -97,6 +109,12 @@ module _ (E : Edition) where
   unfolding packetWords
   fill-answer {t} {u} {s} {span} {new} long p =
       ap (λ (x : Answered × Two). x .0) (p .exact ∙ ap (λ (b : Bool). nine b t (on s t (fillIn E span new (at s t)))) long)
+
+  back-answer : {t u : Two} {s : Store} {span : Token} {a : Answered} → tooShort t ≡ false → PacketPromise E (HandBack s span) t u a
+      → a ≡ plain (handBackIn E span (at s t) .0)
+  unfolding packetWords
+  back-answer {t} {u} {s} {span} long p =
+      ap (λ (x : Answered × Two). x .0) (p .exact ∙ ap (λ (b : Bool). nine b t (on s t (handBackIn E span (at s t)))) long)
 
   -- ---- after any run from bare stores
   run-long : {t u : Two} {hs : List Happened} → AllBare E t → PacketRun E t hs u → tooShort u ≡ false
@@ -138,6 +156,16 @@ module _ (E : Edition) where
       → PacketRun E t hs u → PacketPromise E (Fill s span new) u v a → contents span (shelf s hs []) ≡ none → CannotBeRead (at s u) a
   fill-none {u = u} {s = s} {span} {new} bare run p c =
       subst (CannotBeRead (at s u)) (sym (fill-answer (run-long bare run) p)) (fill-ends-none (fill-case E (store-stands E bare run s) span new) c)
+
+  pub back-done : {t u v : Two} {hs : List Happened} {s : Store} {span : Token} {a : Answered} {bytes : List ℕ} → AllBare E t → PacketRun E t hs u
+      → PacketPromise E (HandBack s span) u v a → contents span (shelf s hs []) ≡ some bytes → a ≡ plain done
+  back-done {s = s} {span} bare run p c =
+      back-answer (run-long bare run) p ∙ ap plain (back-ends-done (back-case E (store-stands E bare run s) span) c)
+
+  pub back-none : {t u v : Two} {hs : List Happened} {s : Store} {span : Token} {a : Answered} → AllBare E t → PacketRun E t hs u
+      → PacketPromise E (HandBack s span) u v a → contents span (shelf s hs []) ≡ none → CannotBeRead (at s u) a
+  back-none {u = u} {s = s} {span} bare run p c =
+      subst (CannotBeRead (at s u)) (sym (back-answer (run-long bare run) p)) (back-ends-none (back-case E (store-stands E bare run s) span) c)
 
   -- no call gives 9
   pub never-9 : {t u v : Two} {hs : List Happened} {c : PacketCall} {a : Answered} → AllBare E t → PacketRun E t hs u

@@ -113,31 +113,36 @@ module _ (E : Edition) where
     unfolding packetWords takeFrom
     take-follows = past-nine t (not-short st) (first-then (take-case E (st .on-chip-stands) asked) (take-case E (st .external-stands) asked))
 
+  out-not-nine : (k : Kept) (c : ℕ) → NotOut k c → c ≢ 9
+  out-not-nine k c (inl e) n = omega arith
+  out-not-nine k c (inr (inl e)) n = omega arith
+  out-not-nine k c (inr (inr e)) n = omega (arith, e .0)
+
   -- ---- a hand-back
   module _ (span : Token) {t : Two} {ons exs : List Held} (st : Stand E t ons exs) where
     on-chip-back : {x : Answer × Kept} → BackCase E (t .on-chip) ons span x → Follows E (HandBack OnChip span) ons exs (on OnChip t x)
     unfolding noted
-    on-chip-back (gives next) = record {
+    on-chip-back (gives is next) = record {
       stands = record { on-chip-stands = next; external-stands = st .external-stands };
       not-nine = λ e. clash (cc);
       was-free = λ s p q e. clash (cc);
     }
-    on-chip-back (gives-not c h) = record {
+    on-chip-back (gives-not c is why) = record {
       stands = st;
-      not-nine = λ e. h (nine-of c e);
+      not-nine = λ e. out-not-nine (t .on-chip) c why (nine-of c e);
       was-free = λ s p q e. clash (cc);
     }
 
     external-back : {x : Answer × Kept} → BackCase E (t .external) exs span x → Follows E (HandBack External span) ons exs (on External t x)
     unfolding noted
-    external-back (gives next) = record {
+    external-back (gives is next) = record {
       stands = record { on-chip-stands = st .on-chip-stands; external-stands = next };
       not-nine = λ e. clash (cc);
       was-free = λ s p q e. clash (cc);
     }
-    external-back (gives-not c h) = record {
+    external-back (gives-not c is why) = record {
       stands = st;
-      not-nine = λ e. h (nine-of c e);
+      not-nine = λ e. out-not-nine (t .external) c why (nine-of c e);
       was-free = λ s p q e. clash (cc);
     }
 
@@ -147,11 +152,6 @@ module _ (E : Edition) where
     back-follows External = past-nine t (not-short st) (external-back (back-case E (st .external-stands) span))
 
   -- ---- a fill
-  out-not-nine : (k : Kept) (c : ℕ) → NotOut k c → c ≢ 9
-  out-not-nine k c (inl e) n = omega arith
-  out-not-nine k c (inr (inl e)) n = omega arith
-  out-not-nine k c (inr (inr e)) n = omega (arith, e .0)
-
   module _ (span : Token) (new : List ℕ) {t : Two} {ons exs : List Held} (st : Stand E t ons exs) where
     on-chip-fill : {x : Answer × Kept} → FillCase E (t .on-chip) ons span new x → Follows E (Fill OnChip span new) ons exs (on OnChip t x)
     unfolding noted

@@ -57,7 +57,7 @@ NotGranted s span (did q a ∷ hs) = (a ≢ packet s (span .offset) (span .numbe
 abbrev pub Short : Two → Type 0
 Short t = (length (t .on-chip .bytes) < t .on-chip .words .size) ⊎ (length (t .external .bytes) < t .external .words .size)
 
--- what cannot be read, and why: 5 or 8, or 6 where there is no store
+-- what cannot be read, filled or handed back, and why: 5 or 8, or 6 where there is no store
 abbrev pub CannotBeRead : Kept → Answered → Type 0
 CannotBeRead k a = (a ≡ plain (refused 5)) ⊎ ((a ≡ plain (refused 8)) ⊎ ((a ≡ plain (refused 6)) × (k .words .count ≡ 0)))
 
@@ -95,6 +95,11 @@ pub record PacketClaims (E : Edition) : Type 0 where
       → a ≡ plain (refused 17)
   pub fill-none : {t u v : Two} {hs : List Happened} {s : Store} {span : Token} {new : List ℕ} {a : Answered} → AllBare E t
       → PacketRun E t hs u → PacketPromise E (Fill s span new) u v a → contents span (shelf s hs []) ≡ none → CannotBeRead (at s u) a
+  -- a hand-back: done exactly if the packet is out
+  pub back-done : {t u v : Two} {hs : List Happened} {s : Store} {span : Token} {a : Answered} {bytes : List ℕ} → AllBare E t → PacketRun E t hs u
+      → PacketPromise E (HandBack s span) u v a → contents span (shelf s hs []) ≡ some bytes → a ≡ plain done
+  pub back-none : {t u v : Two} {hs : List Happened} {s : Store} {span : Token} {a : Answered} → AllBare E t → PacketRun E t hs u
+      → PacketPromise E (HandBack s span) u v a → contents span (shelf s hs []) ≡ none → CannotBeRead (at s u) a
   -- no such run meets 9 but in a setup
   pub never-9 : {t u v : Two} {hs : List Happened} {c : PacketCall} {a : Answered} → AllBare E t → PacketRun E t hs u
       → PacketPromise E c u v a → a ≢ plain (refused 9)

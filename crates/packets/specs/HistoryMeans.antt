@@ -53,6 +53,9 @@ pub record HistoryMeans : Type 0 where
       → NotGranted s span hs
   -- ---- a list of packets lacks a span, or has a first packet of it
   pub lacks-or-first : (span : Token) (held : List Held) → Lacks span held ⊎ FirstOf span held
+  -- the first packet that FirstOf names is the one whose bytes are shown, and what stands before it and behind it is what is left without it
+  pub first-is : (span : Token) (held : List Held) (f : FirstOf span held)
+      → (contents span held ≡ some (f .packet-held .bytes)) × (strike span held ≡ f .front ++ f .back) × Lacks span (f .front)
   -- contents gives what is in the first; strike takes out that one alone, and refill writes over that one's front alone
   pub contents-first : (span : Token) (front back : List Held) (h : Held) → Lacks span front → h .span ≡ span
       → contents span (front ++ (h ∷ back)) ≡ some (h .bytes)

@@ -359,6 +359,9 @@ pub record PacketRows : Type 0 where
   pub other's-nine : From (external-so (having 19) with-packets)
       (SettingUp OnChip 8 4 ∷ SettingUp OnChip 8 1 ∷ SettingUp External 19 4 ∷ SettingUp OnChip 8 4 ∷ takes 3 ∷ takes 9 ∷ [])
       (refuses 9 ∷ refuses 9 ∷ is-done ∷ is-done ∷ packet OnChip 0 0 ∷ packet External 0 0 ∷ [])
+  pub other's-nine-on-chip : From (on-chip-so (having 7) with-packets)
+      (SettingUp External 20 4 ∷ SettingUp External 20 1 ∷ SettingUp OnChip 7 4 ∷ SettingUp External 20 4 ∷ takes 3 ∷ takes 9 ∷ [])
+      (refuses 9 ∷ refuses 9 ∷ is-done ∷ is-done ∷ packet OnChip 0 0 ∷ packet External 0 0 ∷ [])
   pub one-bytes : LeavingBytes (takes 3 ∷ takes 9 ∷ SettingUp OnChip 8 4 ∷ SettingUp External 20 1 ∷ [])
       (255 ∷ 255 ∷ 255 ∷ 7 ∷ 7 ∷ 7 ∷ 7 ∷ 7 ∷ []) (replicate 9 255 ++ replicate 11 7)
   -- ---- the audit of the store that is named: 6 where its words are not sound, 2 for its scratch, whatever the other store is
@@ -369,6 +372,8 @@ pub record PacketRows : Type 0 where
   pub scratch-cleared : auditIn edition32 OnChip with-packets (replicate 5 7) ≡ (done, 0 ∷ 0 ∷ 0 ∷ 0 ∷ 7 ∷ [])
   -- ---- "With two stores the refused first try counts as a refused call": which calls are made below, on the chip and outside it
   pub made-on-4 : Makes (Take record { size = 9 }) fresh (once (ledger.takes 9) (refused 4)) (once (ledger.takes 9) (granted 0 0))
+  pub made-on-3 : Makes (Take record { size = 1 }) (left (takes 1 ∷ takes 1 ∷ []) fresh) (once (ledger.takes 1) (refused 3))
+      (once (ledger.takes 1) (granted 0 0))
   pub made-on-chip : Makes (Take record { size = 8 }) fresh (once (ledger.takes 8) (granted 0 0)) []
   pub made-on-6 : Makes (Take record { size = 9 }) nowhere (once (ledger.takes 9) (refused 6)) []
   pub made-on-9 : Makes (Take record { size = 9 }) (external-so (having 19) fresh) [] []
