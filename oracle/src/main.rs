@@ -10,8 +10,12 @@ mod journal_long;
 mod journal_room;
 mod journal_runs;
 mod long_runs;
+mod packet_cases;
 mod packet_day;
+mod packet_rows;
+mod packet_runs;
 mod packet_speed;
+mod packet_store;
 mod packets;
 mod panics;
 mod regions;
@@ -51,6 +55,9 @@ usage: oracle COMMAND
   journal-long CALLS
                  a journal of so many seeded takes and returns, to be timed
   packets        a seeded day of packets in two stores: digests, counts and what differed
+  packet-cases   single calls of packets in two small stores
+  packet-cases lines
+                 what a program must print for each
   packets-speed TURNS
                  the time of a packet's turns beside the bare calls and copies";
 
@@ -97,6 +104,8 @@ fn write(out: &mut impl Write, arguments: &[&str]) -> Option<io::Result<()>> {
         ["damaged", journals] => damaged::write(out, number(journals)?),
         ["journal-long", calls] => journal_long::write(out, number(calls)?),
         ["packets"] => packet_day::write(out),
+        ["packet-cases"] => packet_cases::write(out),
+        ["packet-cases", "lines"] => packet_cases::write_lines(out),
         ["packets-speed", turns] => packet_speed::write(out, number(turns)?),
         _ => return None,
     })

@@ -6,7 +6,8 @@ use std::time::Instant;
 
 use offset_allocator::Allocator;
 
-use crate::packets::{Packets, Store};
+use crate::packet_store::Store;
+use crate::packets::Packets;
 
 const LENGTHS: [u32; 4] = [16, 64, 200, 1_024];
 const SIZE: u32 = 65_536;
@@ -88,6 +89,6 @@ fn packet_fill(turns: u32, length: u32) -> f64 {
 
 /// The on-chip store has room for all.
 fn packets() -> Packets {
-    let store = || Store::new(SIZE, RECORDS, vec![0; SIZE as usize]);
+    let store = || Store::bare(SIZE, RECORDS, vec![0; SIZE as usize]);
     Packets::new(store(), store())
 }

@@ -10,8 +10,8 @@ struct Region {
 }
 
 /// What a take is refused as: one record or none is spare; no region reaches it.
-const NO_SPARE: u32 = 3;
-const NO_REGION: u32 = 4;
+pub const NO_SPARE: u32 = 3;
+pub const NO_REGION: u32 = 4;
 
 pub struct Regions {
     count: u32,

@@ -2,15 +2,13 @@
 // come: a refusal or a question that changed a word, a grant outside the store, two forms that differ. That every call ends is proved, and the
 // run shows it.
 //
-// A round: `spoiling` makes a head with its tables, from `garbage` or from a true store with a few words overwritten; `arguments` draws the
+// A round: the library `spoiling` makes a head with its tables, from garbage or from a true store with a few words overwritten; `arguments` draws the
 // calls; the library `calling_on_copies` makes them, each on a copy; `judging` and `judging_audits` say what came of them, `counting` counts it, by
 // `columns`; and `printing` prints it.
 mod arguments;
 mod columns;
-mod garbage;
 mod printing;
 mod rounds;
-mod spoiling;
 
 // Eight calls a round, each in both forms: a hundred thousand calls.
 const ROUNDS: u32 = 12500;

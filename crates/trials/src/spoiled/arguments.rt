@@ -1,8 +1,7 @@
 // The call that is made on a line of the table, its arguments drawn from a seed.
-use crate::spoiled::garbage;
 use call_values::call::Call;
-use call_values::store::RECORDS;
-use records::nodes::DATA_OFFSET;
+use spoiling::garbage;
+use spoiling::stores;
 
 // The lines of the table that is printed.
 pub const SET_UP: u32 = 0;
@@ -42,21 +41,13 @@ fn handle(seed: u32) -> u32 {
     }
 }
 
-// Where the nodes have this record start; 0 for a record that they have no words for.
-pub fn start_in(nodes: [u32; 144], record: u32) -> u32 {
-    if record < RECORDS + 2 {
-        return nodes[8 * (record as usize) + DATA_OFFSET];
-    }
-    0
-}
-
 // Where a span is said to start: three times in four as the nodes have it, or few calls on spans would be carried out; else 0 or anything.
 fn start(seed: u32, nodes: [u32; 144], record: u32) -> u32 {
     let drawn = draws::next(seed);
     match draws::below(seed, 8) {
         0 => 0,
         1 => draws::word(drawn),
-        _ => start_in(nodes, record),
+        _ => stores::start_in(nodes, record),
     }
 }
 

@@ -2,13 +2,20 @@
 use crate::spoiled::arguments;
 use crate::spoiled::columns;
 use crate::spoiled::printing;
-use crate::spoiled::spoiling;
 use call_values::call::Call;
 use call_values::made::Made;
 use call_values::store::Store;
 use counting::Tally;
 use judging::checks;
 use judging_audits::Audited;
+use spoiling::stores;
+use spoiling::stores::Sizes;
+
+// Stores of every class that 16 bits have, and small ones beside likely links.
+const SIZES: Sizes = Sizes {
+    of_stores: 65536,
+    of_links: 2000,
+};
 
 // The tables that a round's calls are made on, and whether the audit calls them sound in spite of all.
 struct Round {
@@ -99,7 +106,7 @@ fn is_sound(store: Store) -> bool {
 }
 
 fn begin(seed: u32) -> Round {
-    let before = spoiling::spoiled(seed);
+    let before = stores::spoiled(seed, SIZES);
     Round {
         before,
         on_sound: is_sound(before),
