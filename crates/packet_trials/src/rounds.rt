@@ -27,7 +27,7 @@ const SIZES: Sizes = Sizes {
     of_links: 128,
 };
 
-// Nine calls in ten are lent all bytes.
+// One store in ten is lent fewer bytes than it has.
 fn spoiled(seed: u32) -> Side {
     let drawn = draws::branch(seed, 1);
     let words = stores::spoiled(drawn, SIZES);
