@@ -195,7 +195,9 @@ fn stores() -> Vec<Vec<Call>> {
     journals
 }
 
-const COUNTS: [u32; 10] = [0, 1, 2, 3, 1_023, 1_024, 1_025, 131_072, 131_073, u32::MAX];
+const COUNTS: [u32; 12] = [
+    0, 1, 2, 3, 1_023, 1_024, 1_025, 131_072, 131_073, 1_048_576, 1_048_577, u32::MAX,
+];
 
 fn counts() -> Vec<Vec<Call>> {
     COUNTS

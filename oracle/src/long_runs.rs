@@ -7,8 +7,18 @@ use std::io::{self, Write};
 use crate::runs::Run;
 
 const STORE_SIZES: [u32; 4] = [65_535, 4 << 20, 4_026_531_840, u32::MAX];
-const RECORD_COUNTS: [u32; 3] = [1_024, 16_384, 131_072];
 const PHASES: u32 = 4;
+
+/// The counts, and how many shares of a store's calls the run with each has: many
+/// records want many calls before there is none to spare.
+const RECORD_COUNTS: [(u32, u32); 5] = [
+    (1_024, 1),
+    (16_384, 1),
+    (131_072, 2),
+    (131_073, 2),
+    (1_048_576, 12),
+];
+const SHARES: u32 = 18;
 
 /// In so many turns one has a call with a wrong offset after it.
 const TURNS_PER_WRONG: u32 = 64;
@@ -16,11 +26,11 @@ const TURNS_PER_WRONG: u32 = 64;
 /// Every size with every count, and `calls` takes, returns and size queries in
 /// all; those with a wrong offset come on top.
 pub fn write(out: &mut impl Write, calls: u32) -> io::Result<()> {
-    let phase = calls / (STORE_SIZES.len() * RECORD_COUNTS.len()) as u32 / PHASES;
+    let share = calls / STORE_SIZES.len() as u32 / SHARES / PHASES;
     for size in STORE_SIZES {
-        for count in RECORD_COUNTS {
+        for (count, shares) in RECORD_COUNTS {
             let seed = u64::from(size) << 20 ^ u64::from(count);
-            write_run(Run::new(size, count, seed, true), phase, out)?;
+            write_run(Run::new(size, count, seed, true), share * shares, out)?;
         }
     }
     Ok(())

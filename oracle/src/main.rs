@@ -37,6 +37,8 @@ usage: oracle COMMAND
   long-runs N    N calls in long runs with many records, for a pipe
   speed RUN SIZE RECORDS CALLS
                  a run of seeded takes and returns, to be timed
+  setups SIZE RECORDS TIMES
+                 so many setups, to be timed
   spoil          small stores word by word, each word spoiled, with what an audit must answer
   replay         a line for each call of the journal on standard input
   replay --bare FILE
@@ -92,6 +94,9 @@ fn write(out: &mut impl Write, arguments: &[&str]) -> Option<io::Result<()>> {
             number(records)?,
             number(calls)?,
         ),
+        ["setups", size, records, times] => {
+            speed::write_setups(out, number(size)?, number(records)?, number(times)?)
+        }
         ["spoil"] => spoil::write(out),
         ["journal-room"] => journal_room::write(out),
         ["replay"] => replay::write(out),

@@ -12,7 +12,7 @@ const RUNS: u32 = 12;
 const ROWS: usize = 60;
 
 /// Counts that are refused, at a setup and in a head.
-const BAD_COUNTS: [u32; 7] = [0, 1, RECORDS + 1, RECORDS + 2, 131_072, 131_073, u32::MAX];
+const BAD_COUNTS: [u32; 7] = [0, 1, RECORDS + 1, RECORDS + 2, 1_048_576, 1_048_577, u32::MAX];
 
 pub fn rows() -> Vec<Row> {
     let mut draws = Draws { seed: SEED };

@@ -224,7 +224,9 @@ mod tests {
             (1, Refusal::BadHead),
             (9, Refusal::ShortTable),
             (131_072, Refusal::ShortTable),
-            (131_073, Refusal::BadHead),
+            (131_073, Refusal::ShortTable),
+            (1_048_576, Refusal::ShortTable),
+            (1_048_577, Refusal::BadHead),
             (u32::MAX, Refusal::BadHead),
         ] {
             let mut packets = packets(8);
@@ -358,7 +360,7 @@ mod tests {
             for (count, refusal) in [
                 (1, Refusal::BadHead),
                 (9, Refusal::ShortTable),
-                (131_073, Refusal::BadHead),
+                (1_048_577, Refusal::BadHead),
             ] {
                 packets.store_mut(place).write_count(count);
                 refuse_all(&mut packets, place, &names, refusal);
@@ -383,7 +385,9 @@ mod tests {
                 (head(16, 1), Refusal::BadCount),
                 (head(16, 17), Refusal::ShortTable),
                 (head(16, 131_072), Refusal::ShortTable),
-                (head(16, 131_073), Refusal::BadCount),
+                (head(16, 131_073), Refusal::ShortTable),
+                (head(16, 1_048_576), Refusal::ShortTable),
+                (head(16, 1_048_577), Refusal::BadCount),
             ] {
                 assert_eq!(packets.set_up(place, head(16, 16)), Ok(()));
                 assert_eq!(packets.report(place), Ok((16, 16)));

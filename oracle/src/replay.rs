@@ -276,7 +276,9 @@ mod tests {
             (1_024, None),
             (1_025, Some(2)),
             (131_072, Some(2)),
-            (131_073, Some(1)),
+            (131_073, Some(2)),
+            (1_048_576, Some(2)),
+            (1_048_577, Some(1)),
             (u32::MAX, Some(1)),
         ] {
             assert_eq!(refused_count(count), refused);

@@ -27,7 +27,7 @@ pub const LIVE: u32 = 1;
 /// The least and the greatest count of records, and what is answered to others
 /// and to tables that are not sound; what is answered where a table is too short.
 pub const LEAST_COUNT: u32 = 2;
-pub const GREATEST_COUNT: u32 = 131_072;
+pub const GREATEST_COUNT: u32 = 1_048_576;
 pub const YES: u32 = 0;
 pub const TOO_SHORT: u32 = 2;
 pub const UNSOUND: u32 = 6;

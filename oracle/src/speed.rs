@@ -2,6 +2,7 @@
 //! Rattle programs `speed_in_place` and `speed_by_value` make, so that all can
 //! be timed, and their sums compared.
 
+use std::hint::black_box;
 use std::io::{self, Write};
 
 use offset_allocator::{Allocation, Allocator};
@@ -24,8 +25,8 @@ const FULL: u32 = 4;
 
 pub const LARGEST: u32 = 2_000;
 
-/// As many spans as the port's tables have records are out at most.
-const MOST: u32 = 131_072;
+/// As many spans as there can be records are out at most.
+const MOST: u32 = 1_048_576;
 
 /// What a refused take adds to the sum.
 pub const REFUSED: u32 = u32::MAX;
@@ -112,6 +113,16 @@ pub fn write(out: &mut impl Write, run: u32, size: u32, records: u32, calls: u32
     }
     writeln!(out, "sum {}", draws.sum)?;
     writeln!(out, "held {}", draws.held.len())
+}
+
+/// So many setups, one after the other, each with memory of its own that goes
+/// back after it.
+pub fn write_setups(out: &mut impl Write, size: u32, records: u32, times: u32) -> io::Result<()> {
+    for _ in 0..times {
+        let mut allocator: Allocator<u32> = Allocator::with_max_allocs(size, records);
+        black_box(&mut allocator);
+    }
+    writeln!(out, "setups {times}")
 }
 
 /// A linear congruential generator, whose high half is good enough for sizes.

@@ -15,6 +15,9 @@ use crate::splitmix::SplitMix;
 const SEED: u64 = 1;
 const HIGH_BIT: u32 = 1 << 31;
 
+/// The greatest count of document 01, and one more, which document 02 lets in.
+const FORMER_COUNTS: [u32; 2] = [131_072, 131_073];
+
 /// A part of the head or of the lent tables, by the letter of its rows.
 #[derive(Clone, Copy)]
 enum Part {
@@ -441,6 +444,7 @@ impl Words {
             _ => word_spoils(held, self.max_allocs),
         };
         if matches!((part, at), (Part::Totals, 1)) {
+            values.extend(FORMER_COUNTS);
             values.extend([GREATEST_COUNT, GREATEST_COUNT + 1]);
         }
         values.remove(&held);
@@ -554,7 +558,9 @@ mod tests {
             (2, UNSOUND),
             (7, TOO_SHORT),
             (131_072, TOO_SHORT),
-            (131_073, UNSOUND),
+            (131_073, TOO_SHORT),
+            (1_048_576, TOO_SHORT),
+            (1_048_577, UNSOUND),
         ] {
             assert_eq!(words.with(Part::Totals, 1, count).audit(), answer);
         }

@@ -22,14 +22,15 @@ use Rattle.ledger.proofs.ByClass.{class-laws}
 use Rattle.tables.specs.Words.{Words, Edition}
 use Rattle.tables.specs.Room.{OfHead}
 use Rattle.tables.specs.Calls.{edition32, answerWords}
-use Rattle.tables.specs.Setup.{Lent}
+use Rattle.tables.specs.Setup.{Lent, setupWords}
 use Rattle.tables.specs.Sound.{Sound}
 use Rattle.tables.specs.Claims.{OneOf}
 use Rattle.tables.specs.Promise.{SetupPromise, Promise}
 use Rattle.tables.proofs.Gate.{Gated, bad-count, too-short, open-gate, gated?}
 use Rattle.tables.proofs.Claims as tables
 use Rattle.tables.proofs.OverRuns.{step-sound}
-use Rattle.tables.proofs.Given.{count-rows}
+use Rattle.tables.proofs.Promise.{promise-means}
+use Rattle.tables.proofs.Given.{accepted, count-rows}
 use Rattle.audit_words.specs.Promise.{AuditPromise}
 use Rattle.audit_words.proofs.Claims as auditing
 use Rattle.demands.specs.Runs.{Done, did, Auditing, called, audited, set-up, Run, nothing, then, NoSetup, askedOf, answersOf, callsOf, logOf}
@@ -191,4 +192,14 @@ base-demands = record {
   all-of-them = demands edition32;
   setup-numbered = λ {size} {count} {lent} {v} {k} p.
       count-rows .setup-32 size count lent k (p .size-fits) (sym (ap (λ (x : Answer × Words). x .0) (p .exact)));
+  covers = λ size count lent fits low high long.
+      let v = setupWords edition32 size count lent .1 in
+      let p : SetupPromise edition32 size count lent v done
+      = subst (SetupPromise edition32 size count lent v) (accepted size count lent fits low high long)
+      (promise-means edition32 .every-setup size count lent fits) in
+      (v, p, demands edition32 .setup-begins p);
+  no-further = λ size count l w b.
+      let e = since-means edition32 .begun-says size count l w b .1 in
+      let room = b .stands .room .tables in
+      (omega (arith, e, room .count-low), omega (arith, e, room .count-high));
 }

@@ -3,7 +3,7 @@
 -- Assumes nothing.
 use mathlib.Core.Path.{_≡_}
 use mathlib.Core.List.{List, [], _∷_}
-use Prim.Native.Nat.{ℕ, _+_, _≤_}
+use Prim.Native.Nat.{ℕ, _+_, _^_, _≤_, _<_}
 use Rattle.ledger.specs.Ledger.{Ledger, Answer, granted, done, refused, setup, by-class, Stacks}
 use Rattle.ledger.specs.Calls.{Request, Call, Take, end, log, answer, Reset}
 use Rattle.ledger.specs.WellFormed.{WellFormed}
@@ -15,6 +15,7 @@ use Rattle.tables.specs.Setup.{Lent}
 use Rattle.tables.specs.Calls.{edition32}
 use Rattle.tables.specs.Sound.{Sound}
 use Rattle.tables.specs.Claims.{OneOf, mayGive}
+use Rattle.tables.specs.Examples.{LongEnough}
 use Rattle.tables.specs.Promise.{Promise, SetupPromise}
 use Rattle.audit_words.specs.Promise.{AuditPromise}
 use Rattle.demands.specs.Runs.{Done, did, Auditing, Run, NoSetup, askedOf, answersOf, callsOf, logOf}
@@ -96,3 +97,9 @@ pub record BaseDemands : Type 0 where
   -- every 32-bit size is one of it, so that setup gives 1 and 2 alone
   pub setup-numbered : {size count : ℕ} {lent : Lent} {v : Words} {k : ℕ} → SetupPromise edition32 size count lent v (refused k)
       → OneOf (1 ∷ 2 ∷ []) k
+  -- document 02: "Large houses need up to 1,048,576 records .. Demands 2 and 3 then cover the new range." Any 32-bit size with any of these counts, and
+  -- tables that are long enough: there is such a setup, it is accepted, and it begins with document 01's setup
+  pub covers : (size count : ℕ) (lent : Lent) → size < 2 ^ 32 → 2 ≤ count → count ≤ 1048576 → LongEnough count lent
+      → (v : Words) × SetupPromise edition32 size count lent v done × Begun edition32 size count (setup by-class size count) v
+  -- and with no other count does anything begin, whoever made its words
+  pub no-further : (size count : ℕ) (l : Ledger Stacks) (w : Words) → Begun edition32 size count l w → (2 ≤ count) × (count ≤ 1048576)

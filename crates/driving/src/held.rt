@@ -3,31 +3,36 @@ use answers::Allocation;
 use answers::Handle;
 use answers::TakeAnswer;
 
+fn put(held: &mut [u32], place: u32, offset: u32, handle: u32) {
+    let i = 2 * (place as usize);
+    if i + 1 < held.len() {
+        held[i] = offset;
+        held[i + 1] = handle;
+    }
+}
+
 // What was granted, at the end.
-pub fn keep(held: &mut [u32; 262144], count: u32, answer: TakeAnswer) {
+pub fn keep(held: &mut [u32], count: u32, answer: TakeAnswer) {
     match answer {
         TakeAnswer::Granted(span) => {
             let handle = span.metadata;
-            let i = count as usize;
-            if i < 131072 {
-                held[2 * i] = span.offset;
-                held[2 * i + 1] = handle.0;
-            }
+            put(held, count, span.offset, handle.0);
         }
         TakeAnswer::Refused(_) => (),
     }
 }
 
 // The span at a place; the last one moves there.
-pub fn swap_remove(held: &mut [u32; 262144], count: u32, place: u32) -> Allocation {
-    let i = place as usize;
-    let end = count as usize;
-    if end <= 131072 {
-        if i < end {
-            let offset = held[2 * i];
-            let handle = held[2 * i + 1];
-            held[2 * i] = held[2 * end - 2];
-            held[2 * i + 1] = held[2 * end - 1];
+pub fn swap_remove(held: &mut [u32], count: u32, place: u32) -> Allocation {
+    let i = 2 * (place as usize);
+    let end = 2 * (count as usize);
+    if end <= held.len() {
+        if i + 1 < end {
+            let offset = held[i];
+            let handle = held[i + 1];
+            let last_offset = held[end - 2];
+            let last_handle = held[end - 1];
+            put(held, place, last_offset, last_handle);
             return Allocation {
                 offset: offset,
                 metadata: Handle(handle),

@@ -5,18 +5,18 @@ use crate::rows::Plan;
 use records::totals::Totals;
 use small_float::Size;
 
-struct State {
-    totals: Totals,
-    draws: Draws,
+pub struct State {
+    pub totals: Totals,
+    pub draws: Draws,
 }
 
 fn step(
     state: State,
     bin_indices: &mut [u32; 256],
     used_bins: &mut [u8; 32],
-    nodes: &mut [u32; 1048576],
-    free_nodes: &mut [u32; 131072],
-    out: &mut [u32; 262144],
+    nodes: &mut [u32],
+    free_nodes: &mut [u32],
+    out: &mut [u32],
 ) -> State {
     let t = state.totals;
     let before = state.draws;
@@ -43,7 +43,27 @@ fn step(
     State { totals, draws }
 }
 
-fn run(
+// A run in a store that was set up, with whatever scalars.
+pub fn run(
+    plan: Plan,
+    totals: Totals,
+    bin_indices: &mut [u32; 256],
+    used_bins: &mut [u8; 32],
+    nodes: &mut [u32],
+    free_nodes: &mut [u32],
+    out: &mut [u32],
+) -> State {
+    let draws = Draws::new(plan.run);
+    let mut state = State { totals, draws };
+    let mut i = 0u32;
+    while i < plan.calls {
+        i += 1;
+        state = step(state, bin_indices, used_bins, nodes, free_nodes, out);
+    }
+    state
+}
+
+fn drive_on(
     plan: Plan,
     nodes: &mut [u32; 1048576],
     free_nodes: &mut [u32; 131072],
@@ -60,21 +80,16 @@ fn run(
         free_nodes,
     );
     let totals = started.totals;
-    let draws = Draws::new(plan.run);
-    let mut state = State { totals, draws };
-    let mut i = 0u32;
-    while i < plan.calls {
-        i += 1;
-        state = step(
-            state,
-            &mut bin_indices,
-            &mut used_bins,
-            nodes,
-            free_nodes,
-            out,
-        );
-    }
-    state.draws
+    let end = run(
+        plan,
+        totals,
+        &mut bin_indices,
+        &mut used_bins,
+        nodes,
+        free_nodes,
+        out,
+    );
+    end.draws
 }
 
 // A whole run, in tables for 131,072 records.
@@ -82,5 +97,5 @@ pub fn drive(plan: Plan) -> Draws {
     let mut nodes = [0u32; 1048576];
     let mut free_nodes = [0u32; 131072];
     let mut out = [0u32; 262144];
-    run(plan, &mut nodes, &mut free_nodes, &mut out)
+    drive_on(plan, &mut nodes, &mut free_nodes, &mut out)
 }

@@ -19,8 +19,8 @@ pub const FULL: u32 = 4;
 
 pub const LARGEST: u32 = 2000;
 
-// As many spans as the tables have records are out at most.
-pub const MOST: u32 = 131072;
+// As many spans as there can be records are out at most.
+pub const MOST: u32 = 1048576;
 
 // What a refused take adds to the sum.
 pub const REFUSED: u32 = 4294967295;

@@ -101,7 +101,7 @@ fn count(seed: u32) -> Number {
         0 => Number { seed, n: 0 },
         1 => Number { seed, n: 1 },
         2 => Number { seed, n: 1025 },
-        3 => Number { seed, n: 131073 },
+        3 => Number { seed, n: 1048577 },
         _ => {
             let good = below(seed, 40);
             Number {

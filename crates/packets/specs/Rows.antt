@@ -193,7 +193,7 @@ pub record PacketRows : Type 0 where
       (refuses 3 ∷ refuses 3 ∷ refuses 3 ∷ [])
   -- "on 3 or 4 only": not on 6, of a head with a bad count or of bits that contradict, nor on 2, of either table; the external store would grant it
   pub not-on-6 : Unchanged (on-chip-so (counting 1) fresh) (takes 1 ∷ takes 9 ∷ []) (refuses 6 ∷ refuses 6 ∷ [])
-  pub not-on-6-above : Unchanged (on-chip-so (counting 131073) fresh) (takes 1 ∷ takes 9 ∷ []) (refuses 6 ∷ refuses 6 ∷ [])
+  pub not-on-6-above : Unchanged (on-chip-so (counting 1048577) fresh) (takes 1 ∷ takes 9 ∷ []) (refuses 6 ∷ refuses 6 ∷ [])
   pub not-on-6-of-bits : Unchanged (on-chip-so (bits 2 (replicate 32 0)) fresh) (takes 1 ∷ []) (refuses 6 ∷ [])
   pub not-on-2-nodes : Unchanged (on-chip-so (lending 31 4) fresh) (takes 1 ∷ takes 9 ∷ []) (refuses 2 ∷ refuses 2 ∷ [])
   pub not-on-2-pile : Unchanged (on-chip-so (lending 32 3) fresh) (takes 1 ∷ takes 9 ∷ []) (refuses 2 ∷ refuses 2 ∷ [])
@@ -307,7 +307,7 @@ pub record PacketRows : Type 0 where
   pub both-refused-on-chip-1 : From with-packets (SettingUpBoth 8 1 20 4 ∷ every-call) (refuses 1 ∷ all-refused 6)
   pub both-refused-external-2 : From with-packets (SettingUpBoth 8 4 20 5 ∷ every-call) (refuses 2 ∷ all-refused 6)
   pub both-refused-on-chip-2 : From with-packets (SettingUpBoth 8 5 20 4 ∷ every-call) (refuses 2 ∷ all-refused 6)
-  pub both-order : From with-packets (SettingUpBoth 8 5 20 1 ∷ SettingUpBoth 8 1 20 5 ∷ SettingUpBoth 8 131073 20 5 ∷ [])
+  pub both-order : From with-packets (SettingUpBoth 8 5 20 1 ∷ SettingUpBoth 8 1 20 5 ∷ SettingUpBoth 8 1048577 20 5 ∷ [])
       (refuses 2 ∷ refuses 1 ∷ refuses 1 ∷ [])
   -- document 01's "refused, it returns one of zeros": the scalars of both; arrays, tables and bytes stay
   pub both-zeros : headOf (left (SettingUpBoth 8 4 20 1 ∷ []) with-packets .on-chip) ++ headOf (left (SettingUpBoth 8 4 20 1 ∷ []) with-packets .external)

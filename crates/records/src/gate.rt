@@ -8,7 +8,7 @@ ghost use Rattle.records.specs.InWords.{gateNumber};
 use answers::Refusal;
 
 // The greatest count of records.
-pub const MAX_RECORDS: u32 = 131072;
+pub const MAX_RECORDS: u32 = 1048576;
 
 pub enum Gate {
     Open,

@@ -33,8 +33,9 @@ pub record MeaningRows : Type 0 where
       (sets-up 100 6 ∷ takes 20 ∷ sets-up 100 1 ∷ takes 1 ∷ hands-back 0 0 ∷ Reset ∷ sets-up 100 6 ∷ takes 1 ∷ [])
       (done ∷ granted 0 0 ∷ refused 1 ∷ refused 6 ∷ refused 6 ∷ refused 6 ∷ done ∷ granted 0 0 ∷ [])
   -- "a larger good count gets 2"
-  pub counts : Answering (sets-up 8 1 ∷ sets-up 8 2 ∷ sets-up 8 1024 ∷ sets-up 8 1025 ∷ sets-up 8 131072 ∷ sets-up 8 131073 ∷ [])
-      (refused 1 ∷ done ∷ done ∷ refused 2 ∷ refused 2 ∷ refused 1 ∷ [])
+  pub counts : Answering (sets-up 8 1 ∷ sets-up 8 2 ∷ sets-up 8 1024 ∷ sets-up 8 1025 ∷ sets-up 8 131072 ∷ sets-up 8 131073 ∷ sets-up 8 1048576
+      ∷ sets-up 8 1048577 ∷ [])
+      (refused 1 ∷ done ∷ done ∷ refused 2 ∷ refused 2 ∷ refused 2 ∷ refused 2 ∷ refused 1 ∷ [])
   -- document 01's run to follow, and a reset behind it
   pub run-to-follow : Answering
       (sets-up 100 6 ∷ takes 20 ∷ takes 30 ∷ takes 49 ∷ takes 48 ∷ hands-back 20 1 ∷ hands-back 20 1 ∷ takes 0 ∷ takes 1

@@ -1,8 +1,8 @@
 // The audit beside a setup of the same size: 131,072 records, half of them with a live span. Here is the program's second place where a span is
 // taken, and where one goes back.
 use answers::Allocation;
-use answers::AuditAnswer;
 use answers::Handle;
+use driving::again;
 use records::totals::Totals;
 use small_float::Size;
 
@@ -17,31 +17,6 @@ const LAST: u32 = 65536;
 const LENGTH: u32 = 1000;
 
 const LAST_STARTS: u32 = LAST * LENGTH;
-
-// So many setups, one after the other; the scalars that the last one leaves.
-fn set_up(
-    times: u32,
-    bin_indices: &mut [u32; 256],
-    used_bins: &mut [u8; 32],
-    nodes: &mut [u32; 1048576],
-    free_nodes: &mut [u32; 131072],
-) -> Totals {
-    let mut t = Totals::zeros();
-    let mut i = 0u32;
-    while i < times {
-        i += 1;
-        let started = starting::with_max_allocs(
-            Size(STORE),
-            RECORDS,
-            bin_indices,
-            used_bins,
-            nodes,
-            free_nodes,
-        );
-        t = started.totals;
-    }
-    t
-}
 
 // So many spans are taken, and the last one goes back: a fresh store gives its records in order.
 fn take_spans(
@@ -66,32 +41,6 @@ fn take_spans(
     returned.totals
 }
 
-fn is_sound(answer: AuditAnswer) -> bool {
-    match answer {
-        AuditAnswer::Sound => true,
-        AuditAnswer::Refused(_) => false,
-    }
-}
-
-// So many audits; whether the last one said yes.
-fn audit(
-    times: u32,
-    t: Totals,
-    bin_indices: &[u32; 256],
-    used_bins: &[u8; 32],
-    nodes: &[u32; 1048576],
-    free_nodes: &[u32; 131072],
-    scratch: &mut [u32; 131072],
-) -> bool {
-    let mut sound = false;
-    let mut i = 0u32;
-    while i < times {
-        i += 1;
-        sound = is_sound(auditing::audit(t, bin_indices, used_bins, nodes, free_nodes, scratch));
-    }
-    sound
-}
-
 fn set_up_and_audit(
     setups: u32,
     audits: u32,
@@ -101,9 +50,17 @@ fn set_up_and_audit(
 ) -> bool {
     let mut bin_indices = [0u32; 256];
     let mut used_bins = [0u8; 32];
-    let t = set_up(setups, &mut bin_indices, &mut used_bins, nodes, free_nodes);
+    let t = again::set_up(
+        setups,
+        STORE,
+        RECORDS,
+        &mut bin_indices,
+        &mut used_bins,
+        nodes,
+        free_nodes,
+    );
     let u = take_spans(t, &mut bin_indices, &mut used_bins, nodes, free_nodes);
-    audit(
+    again::audit(
         audits,
         u,
         &bin_indices,

@@ -74,4 +74,4 @@ spoiled-bits = record { bare-top-bit = refl; bare-top-report = refl; no-top-bit 
 
 pub gate-rows : GateRows
 unfolding gate setupGate
-gate-rows = record { counts = refl; nodes = refl; piles = refl; sizes = refl; order = refl }
+gate-rows = record { counts = refl; setup-counts = refl; greatest-tables = refl; nodes = refl; piles = refl; sizes = refl; order = refl }

@@ -39,7 +39,7 @@ use Rattle.tables.proofs.Refusals.{call-6, call-2, take-3, back-5, back
 use Rattle.tables.proofs.OverRuns.{call-sound, demand-2}
 
 -- ---- counts
-accepted : (size count : ℕ) (lent : Lent) → size < 2 ^ 32 → 2 ≤ count → count ≤ edition32 .limit → LongEnough count lent
+pub accepted : (size count : ℕ) (lent : Lent) → size < 2 ^ 32 → 2 ≤ count → count ≤ edition32 .limit → LongEnough count lent
     → setupWords edition32 size count lent .0 ≡ done
 accepted size count lent fits low high long =
     setup-done edition32 size count lent .1
@@ -64,6 +64,13 @@ which count lent short = elim (below? (length (lent .nodes)) (nodesNeeded count)
   ]
 ]
 
+one-of-these : (count : ℕ) → OneOf (2 ∷ 131072 ∷ 131073 ∷ 1048576 ∷ []) count → (2 ≤ count) × (count ≤ edition32 .limit)
+one-of-these count (inl e) = (omega (arith, e), omega (arith, e))
+one-of-these count (inr (inl e)) = (omega (arith, e), omega (arith, e))
+one-of-these count (inr (inr (inl e))) = (omega (arith, e), omega (arith, e))
+one-of-these count (inr (inr (inr (inl e)))) = (omega (arith, e), omega (arith, e))
+one-of-these count (inr (inr (inr (inr e)))) = absurd e
+
 pub count-rows : CountRows
 count-rows = record {
   count-1 = λ size lent. setup-1 edition32 size 1 lent .1 (inl (omega arith));
@@ -73,8 +80,14 @@ count-rows = record {
       call-sound edition32 (end (answerWords edition32) cs (setupWords edition32 size 2 lent .1))
       (end (answer by-class size 2) cs (setup by-class size 2)) sound (Take asked) .0
       ∙ unfold answer in small-stores .count-2 size (asked .size) (end (answer by-class size 2) cs (setup by-class size 2)) (cs, refl);
+  accepted-before = λ size lent fits long. accepted size _ lent fits (omega arith) (omega arith) long;
+  now-accepted = λ size lent fits long. accepted size _ lent fits (omega arith) (omega arith) long;
   greatest-count = λ size lent fits long. accepted size _ lent fits (omega arith) (omega arith) long;
   one-too-many = λ size lent. setup-1 edition32 size _ lent .1 (inr (omega arith));
+  in-heads = λ c w e nodes pile.
+      let within = one-of-these (w .count) e in
+      call-open edition32 c w record { count-low = within .0; count-high = within .1; nodes-room = nodes; pile-room = pile };
+  one-too-many-in-a-head = λ c w e. call-6 edition32 c w (inr (omega (arith, e)));
   setup-32 = only-1-and-2;
   not-long-enough = λ size count lent fits low high short. setup-2 edition32 size count lent .1 (omega arith, ((low, high), which count lent short));
   one-of-zeros = λ size nodes pile.
@@ -144,7 +157,7 @@ sides-outside count o r p x =
     let x-free = isFree (w .nodes) count x in
     total-outside count o r p x p-free x-free (mergedOf w r p x p-free x-free) (omega arith)
 
-back-6 : (count : ℕ) (span : Token) → 2 ≤ count → count ≤ 131072 → span .number < count
+back-6 : (count : ℕ) (span : Token) → 2 ≤ count → count ≤ edition32 .limit → span .number < count
     → answerWords edition32 (HandBack span) (too-free count (span .offset) (span .number)) .0 ≡ refused 6
 unfolding behind doBack
 back-6 count span low high h =
@@ -158,7 +171,7 @@ back-6 count span low high h =
     ap (λ (o : Answer × Words). o .0) (call-open edition32 (HandBack span) w (marked-room count (span .offset) (span .number) low high))
     ∙ ap (λ (p : BackPlan). doBack edition32 w (span .number) p .0) stops
 
-back-gives-8 : (count : ℕ) (span : Token) → 2 ≤ count → count ≤ 131072 → span .number < count
+back-gives-8 : (count : ℕ) (span : Token) → 2 ≤ count → count ≤ edition32 .limit → span .number < count
     → answerWords edition32 (HandBack span) (marked count (span .offset + 1) (span .number)) .0 ≡ refused 8
 unfolding behind doBack
 back-gives-8 count span low high h =
@@ -200,9 +213,9 @@ not-live-5 span = back-5 edition32 (two 0) span (room 0) .1 (not-live 0 (span .n
 -- 8 is given to a record that starts one further on
 elsewhere-8 : (span : Token) → span .number < edition32 .limit → GivenBehind (HandBack span) 8
 elsewhere-8 span h = (
-  marked 131072 (span .offset + 1) (span .number),
-  marked-room 131072 (span .offset + 1) (span .number) (omega arith) (omega arith),
-  back-gives-8 131072 span (omega arith) (omega arith) h,
+  marked (edition32 .limit) (span .offset + 1) (span .number),
+  marked-room (edition32 .limit) (span .offset + 1) (span .number) (omega arith) (omega arith),
+  back-gives-8 (edition32 .limit) span (omega arith) (omega arith) h,
 )
 
 back-behind : (span : Token) (k : ℕ) → span .number < edition32 .limit → OneOf (mayGiveBehind (HandBack span)) k → GivenBehind (HandBack span) k
@@ -210,9 +223,9 @@ back-behind span k h (inl e) = renumber-behind (HandBack span) e (two 0, room 0,
 back-behind span k h (inr (inl e)) = renumber-behind (HandBack span) e (elsewhere-8 span h)
 back-behind span k h (inr (inr (inl e))) =
     renumber-behind (HandBack span) e (
-      too-free 131072 (span .offset) (span .number),
-      marked-room 131072 (span .offset) (span .number) (omega arith) (omega arith),
-      back-6 131072 span (omega arith) (omega arith) h,
+      too-free (edition32 .limit) (span .offset) (span .number),
+      marked-room (edition32 .limit) (span .offset) (span .number) (omega arith) (omega arith),
+      back-6 (edition32 .limit) span (omega arith) (omega arith) h,
     )
 back-behind span k h (inr (inr (inr e))) = absurd e
 

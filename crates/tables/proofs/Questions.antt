@@ -189,7 +189,7 @@ size-5 span = elim (below? (span .number) 2) [
 abbrev pub marked : (count o r : ℕ) → Words
 marked count o r = bare count 1 (put r dataOffset o (replicate (8 * count) 1)) (replicate count 0)
 
-pub marked-room : (count o r : ℕ) → 2 ≤ count → count ≤ 131072
+pub marked-room : (count o r : ℕ) → 2 ≤ count → count ≤ edition32 .limit
     → Room edition32 count (length (marked count o r .nodes)) (length (marked count o r .pile))
 marked-room count o r low high = record {
   count-low = low;
@@ -230,9 +230,9 @@ pub told-given : (q : Question) (k : ℕ) → (k ≡ 8 → AsksOfAStore q) → O
 told-given (SizeOf span) k in-store (inl e) = shown (SizeOf span) e (two 0, room 0, size-5 span)
 told-given (SizeOf span) k in-store (inr (inl e)) =
     shown (SizeOf span) e (
-      marked 131072 (span .offset + 1) (span .number),
-      marked-room 131072 (span .offset + 1) (span .number) (omega arith) (omega arith),
-      size-8 131072 span (in-store e),
+      marked (edition32 .limit) (span .offset + 1) (span .number),
+      marked-room (edition32 .limit) (span .offset + 1) (span .number) (omega arith) (omega arith),
+      size-8 (edition32 .limit) span (in-store e),
     )
 told-given (SizeOf span) k in-store (inr (inr e)) = absurd e
 told-given Report k in-store (inl e) = shown Report e (top-alone, room 1, report-6)

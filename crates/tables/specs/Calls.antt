@@ -8,9 +8,9 @@ use Rattle.tables.specs.Take.{planTake, doTake}
 use Rattle.tables.specs.HandBack.{planBack, doBack}
 use Rattle.tables.specs.Questions.{toldBy}
 
--- the edition of the base: 32-bit links, 131,072 records, any 32-bit size
+-- the edition of the base: 32-bit links, 1,048,576 records, any 32-bit size
 abbrev pub edition32 : Edition
-edition32 = record { none = 4294967295; limit = 131072; greatest = 4294967295; small = lib.Dec.lit≤ tt; fits = lib.Dec.lit≤ tt }
+edition32 = record { none = 4294967295; limit = 1048576; greatest = 4294967295; small = lib.Dec.lit≤ tt; fits = lib.Dec.lit≤ tt }
 
 module _ (E : Edition) where
   -- what a call does once its gate is open: a plan and its commit; everything anew; a question leaves every word

@@ -13,7 +13,7 @@ use Rattle.tables.specs.Layout.{dataOffset, dataSize, binNext, put, node
 use Rattle.tables.specs.Words.{Words, Edition, withNodes, withLists, withTotal}
 use Rattle.tables.specs.Gate.{gate, setupGate}
 use Rattle.tables.specs.Setup.{Lent, tablesAlone, setupWords}
-use Rattle.tables.specs.Calls.{edition32, answerWords}
+use Rattle.tables.specs.Calls.{edition32, behind, answerWords}
 use Rattle.tables.specs.Room.{Room}
 use Rattle.tables.specs.Claims.{OneOf, mayGiveBehind, mayGive}
 
@@ -139,17 +139,25 @@ pub record SpoiledBits : Type 0 where
 
 -- ---- the gate, at both ends of the count and at the length of each table; and at setup the size, in an edition of 99 units
 abbrev pub edition99 : Edition
-edition99 = record { none = 4294967295; limit = 131072; greatest = 99; small = lib.Dec.lit≤ tt; fits = lib.Dec.lit≤ tt }
+edition99 = record { none = 4294967295; limit = edition32 .limit; greatest = 99; small = edition32 .small; fits = lib.Dec.lit≤ tt }
 
 pub record GateRows : Type 0 where
-  pub counts : map (λ (count : ℕ). gate edition32 6 count 2000000 200000) (1 ∷ 2 ∷ 131072 ∷ 131073 ∷ []) ≡ 6 ∷ 0 ∷ 0 ∷ 6 ∷ []
+  -- document 02: "131,073 is now accepted and 1,048,577 refused"
+  pub counts : map (λ (count : ℕ). gate edition32 6 count 9000000 1100000) (1 ∷ 2 ∷ 131072 ∷ 131073 ∷ 1048576 ∷ 1048577 ∷ [])
+      ≡ 6 ∷ 0 ∷ 0 ∷ 0 ∷ 0 ∷ 6 ∷ []
+  pub setup-counts : map (λ (count : ℕ). setupGate edition32 100 count 9000000 1100000) (1 ∷ 2 ∷ 131072 ∷ 131073 ∷ 1048576 ∷ 1048577 ∷ [])
+      ≡ 1 ∷ 0 ∷ 0 ∷ 0 ∷ 0 ∷ 1 ∷ []
+  -- the tables of the greatest count, one word short of each, and as long as they must be
+  pub greatest-tables : gate edition32 6 1048576 8388607 1048576 ∷ gate edition32 6 1048576 8388608 1048575 ∷ gate edition32 6 1048576 8388608 1048576 ∷ []
+      ≡ 2 ∷ 2 ∷ 0 ∷ []
   pub nodes : map (λ (nodes : ℕ). gate edition32 6 2 nodes 2) (15 ∷ 16 ∷ []) ≡ 2 ∷ 0 ∷ []
   pub piles : map (λ (pile : ℕ). gate edition32 6 2 16 pile) (1 ∷ 2 ∷ []) ≡ 2 ∷ 0 ∷ []
   pub sizes : map (λ (size : ℕ). setupGate edition99 size 2 16 2) (99 ∷ 100 ∷ []) ≡ 0 ∷ 10 ∷ []
   -- the count before the size, and the size before the lengths
   pub order : setupGate edition99 100 1 0 0 ∷ setupGate edition99 100 2 0 0 ∷ setupGate edition99 99 2 0 0 ∷ [] ≡ 1 ∷ 10 ∷ 2 ∷ []
 
--- ---- "Count 1 is refused, 2 accepted though every take gives 3; 131,072 is accepted, 131,073 refused."
+-- ---- "Count 1 is refused, 2 accepted though every take gives 3", and of document 02: "Refusals 1 and 6 and the limits of 01 move to that number; 131,073
+-- is now accepted and 1,048,577 refused."
 -- tables that are long enough for a count
 abbrev pub LongEnough : ℕ → Lent → Type 0
 LongEnough count lent = (nodesNeeded count ≤ length (lent .nodes)) × (pileNeeded count ≤ length (lent .pile))
@@ -159,8 +167,15 @@ pub record CountRows : Type 0 where
   pub count-2 : (size : ℕ) (lent : Lent) → size < 2 ^ 32 → LongEnough 2 lent → setupWords edition32 size 2 lent .0 ≡ done
   pub takes-of-2 : (size : ℕ) (lent : Lent) → size < 2 ^ 32 → LongEnough 2 lent → (cs : List Call) (asked : Request)
       → answerWords edition32 (Take asked) (end (answerWords edition32) cs (setupWords edition32 size 2 lent .1)) .0 ≡ refused 3
-  pub greatest-count : (size : ℕ) (lent : Lent) → size < 2 ^ 32 → LongEnough 131072 lent → setupWords edition32 size 131072 lent .0 ≡ done
-  pub one-too-many : (size : ℕ) (lent : Lent) → setupWords edition32 size 131073 lent .0 ≡ refused 1
+  pub accepted-before : (size : ℕ) (lent : Lent) → size < 2 ^ 32 → LongEnough 131072 lent → setupWords edition32 size 131072 lent .0 ≡ done
+  pub now-accepted : (size : ℕ) (lent : Lent) → size < 2 ^ 32 → LongEnough 131073 lent → setupWords edition32 size 131073 lent .0 ≡ done
+  pub greatest-count : (size : ℕ) (lent : Lent) → size < 2 ^ 32 → LongEnough 1048576 lent → setupWords edition32 size 1048576 lent .0 ≡ done
+  pub one-too-many : (size : ℕ) (lent : Lent) → setupWords edition32 size 1048577 lent .0 ≡ refused 1
+  -- a head with such a count: every call goes on behind its gate, if the tables are long enough; with one more it is refused, and every word stays
+  pub in-heads : (c : Call) (w : Words) → OneOf (2 ∷ 131072 ∷ 131073 ∷ 1048576 ∷ []) (w .count)
+      → nodesNeeded (w .count) ≤ length (w .nodes) → pileNeeded (w .count) ≤ length (w .pile)
+      → answerWords edition32 c w ≡ behind edition32 c w
+  pub one-too-many-in-a-head : (c : Call) (w : Words) → w .count ≡ 1048577 → answerWords edition32 c w ≡ (refused 6, w)
   -- every 32-bit size is one of this edition, so its setup gives 1 and 2 alone
   pub setup-32 : (size count : ℕ) (lent : Lent) (k : ℕ) → size < 2 ^ 32 → setupWords edition32 size count lent .0 ≡ refused k
       → OneOf (1 ∷ 2 ∷ []) k

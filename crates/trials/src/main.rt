@@ -2,8 +2,8 @@
 // by value, on tables for 1,024 records, the most that a run of the list has; printed is how many rows agree with what the port answers. Then
 // every call is made on spoiled tables.
 //
-// With an argument long runs are compared, which tools/long-run pipes in, on tables for 131,072 records, one form at a time, because a stack of
-// 8 MiB does not hold the tables of both: with one argument in place, with two by value.
+// With an argument long runs are compared, which tools/long-run pipes in, on tables for 1,048,576 records, one form at a time: with one argument in
+// place, with two by value. The tables take 36 MiB, so tools/long-run asks for a stack that holds them.
 mod list;
 mod spoiled;
 
@@ -13,7 +13,7 @@ use list::runs::Comparison;
 use run_rows::forms::Forms;
 
 // The form that is left out is lent tables of one word, which nothing touches.
-fn compare_in_place(nodes: &mut [u32; 1048576], free_nodes: &mut [u32; 131072]) -> Comparison {
+fn compare_in_place(nodes: &mut [u32; 8388608], free_nodes: &mut [u32; 1048576]) -> Comparison {
     let mut bin_indices = [0u32; 256];
     let mut used_bins = [0u8; 32];
     let mut no_nodes = [0u32; 1];
@@ -29,7 +29,7 @@ fn compare_in_place(nodes: &mut [u32; 1048576], free_nodes: &mut [u32; 131072]) 
     )
 }
 
-fn compare_by_value(nodes: &mut [u32; 1048576], free_nodes: &mut [u32; 131072]) -> Comparison {
+fn compare_by_value(nodes: &mut [u32; 8388608], free_nodes: &mut [u32; 1048576]) -> Comparison {
     let mut bin_indices = [0u32; 256];
     let mut used_bins = [0u8; 32];
     let mut no_nodes = [0u32; 1];
@@ -77,13 +77,23 @@ fn print_list() {
     ));
 }
 
-fn print_long(by_value: bool) {
-    let mut nodes = [0u32; 1048576];
-    let mut free_nodes = [0u32; 131072];
-    if by_value {
-        outcome::print_outcome(compare_by_value(&mut nodes, &mut free_nodes));
+// Long runs: with one word in place, with more by value.
+fn print_long_on(words: usize, nodes: &mut [u32; 8388608], free_nodes: &mut [u32; 1048576]) {
+    if 1 < words {
+        outcome::print_outcome(compare_by_value(nodes, free_nodes));
     } else {
-        outcome::print_outcome(compare_in_place(&mut nodes, &mut free_nodes));
+        outcome::print_outcome(compare_in_place(nodes, free_nodes));
+    }
+}
+
+// The input is one list, of which words beyond the second find nothing left. That the function calls itself for these is for the compiler, which puts
+// no such function into its caller: there the tables would be on the stack with the list of the gate too.
+fn print_long(words: usize) {
+    let mut nodes = [0u32; 8388608];
+    let mut free_nodes = [0u32; 1048576];
+    print_long_on(words, &mut nodes, &mut free_nodes);
+    if 2 < words {
+        print_long(words - 1);
     }
 }
 
@@ -91,7 +101,7 @@ fn print_long(by_value: bool) {
 fn main() {
     let arguments = os::arg_count();
     if 1 < arguments {
-        print_long(2 < arguments);
+        print_long(arguments - 1);
     } else {
         print_list();
         spoiled::print();

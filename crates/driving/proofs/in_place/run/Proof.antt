@@ -1,23 +1,23 @@
 -- The measure is the number of calls that are left. Assumes nothing.
+use mathlib.Core.Path.{_≡_, refl}
 use Prim.Native.Nat.{_-_, _≤_}
 use native.Mathlib.Omega.{arith}
+use lib.ListN.{length}
 use Rattle.driving.proofs.in_place.run.Statement.{statement}
 use Rattle.driving.proofs.in_place.run.Tie as tie
 
 abbrev Inv-loop : tie.InvT-loop
-Inv-loop plan nodes₀ free-nodes₀ out₀ bin-indices₀ used-bins₀ state₀ i₀ nodes free-nodes out bin-indices used-bins state i = i ≤ plan .calls
+Inv-loop plan bin-indices₀ used-bins₀ nodes₀ free-nodes₀ out₀ state₀ i₀ bin-indices used-bins nodes free-nodes out state i =
+    (i ≤ plan .calls) × (length nodes ≡ length nodes₀) × (length free-nodes ≡ length free-nodes₀) × (length out ≡ length out₀)
 
 abbrev μ-loop : tie.MeasureT-loop
-μ-loop plan nodes₀ free-nodes₀ out₀ bin-indices₀ used-bins₀ state₀ i₀ nodes free-nodes out bin-indices used-bins state i = plan .calls - i
-
-with-max-allocs-requires : tie.Need-with-max-allocs-requires Inv-loop μ-loop
-with-max-allocs-requires c κs = tt
+μ-loop plan bin-indices₀ used-bins₀ nodes₀ free-nodes₀ out₀ state₀ i₀ bin-indices used-bins nodes free-nodes out state i = plan .calls - i
 
 new-requires : tie.Need-new-requires Inv-loop μ-loop
 new-requires c κs = tt
 
 loop-holds : tie.Need-loop-holds Inv-loop μ-loop
-loop-holds c = omega arith
+loop-holds c = (omega arith, refl, refl, refl)
 
 add-i : tie.Need-add-i Inv-loop μ-loop
 add-i c = omega arith
@@ -29,7 +29,16 @@ loop-less : tie.Need-loop-less Inv-loop μ-loop
 loop-less c = omega arith
 
 loop-again : tie.Need-loop-again Inv-loop μ-loop
-loop-again c = omega arith
+loop-again c = (omega arith, omega arith, omega arith, omega arith)
+
+same-length : tie.Need-same-length Inv-loop μ-loop
+same-length c = omega arith
+
+same-length-2 : tie.Need-same-length-2 Inv-loop μ-loop
+same-length-2 c = omega arith
+
+same-length-3 : tie.Need-same-length-3 Inv-loop μ-loop
+same-length-3 c = omega arith
 
 returns : tie.Need-returns Inv-loop μ-loop
 returns c = omega arith
@@ -40,11 +49,13 @@ run-spec =
     (tie.spec
     Inv-loop
     μ-loop
-    with-max-allocs-requires
     new-requires
     loop-holds
     add-i
     step-requires
     loop-less
     loop-again
+    same-length
+    same-length-2
+    same-length-3
     returns)

@@ -1,4 +1,7 @@
--- The tests are the model's, in the same order. Assumes nothing.
+-- The tests are the model's, in the same order. What the second one finds is stated as a fact on numbers, so that another limit is refused there.
+-- Assumes nothing.
+use Prim.Native.Nat.{_≤_, _<_}
+use native.Mathlib.Omega.{arith}
 use borrow.Author.Tests.{lt-ltb, le-ltb}
 use Rattle.tables.specs.Gate.{gate}
 use Rattle.tables.specs.Calls.{edition32}
@@ -14,7 +17,8 @@ returns-2 : tie.Need-returns-2
 unfolding gate
 returns-2 c =
     let count = c .before .before .args .max-allocs in
-    rw (le-ltb count 2 (c .before .if1 .left), lt-ltb (edition32 .limit) count (c .if2 .taken))
+    let above : edition32 .limit < count = omega (arith, c .if2 .taken) in
+    rw (le-ltb count 2 (c .before .if1 .left), lt-ltb (edition32 .limit) count above)
 
 mul-if3 : tie.Need-mul-if3
 mul-if3 c = search needs
@@ -23,7 +27,8 @@ returns-3 : tie.Need-returns-3
 unfolding gate
 returns-3 c =
     let d = c .before .before in
-    rw (le-ltb _ _ (d .if1 .left), le-ltb _ _ (c .before .if2 .left), lt-ltb _ _ (c .if3 .taken))
+    let within : d .before .args .max-allocs ≤ edition32 .limit = omega (arith, c .before .if2 .left) in
+    rw (le-ltb _ _ (d .if1 .left), le-ltb _ _ within, lt-ltb _ _ (c .if3 .taken))
 
 returns-4 : tie.Need-returns-4
 unfolding gate

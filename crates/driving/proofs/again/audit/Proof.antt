@@ -1,17 +1,20 @@
 -- The measure is the number of audits that are left. Assumes nothing.
+use mathlib.Core.Path.{_≡_, refl}
 use Prim.Native.Nat.{_-_, _≤_}
 use native.Mathlib.Omega.{arith}
-use Rattle.speed_in_place_sites.proofs.audits.audit.Statement.{statement}
-use Rattle.speed_in_place_sites.proofs.audits.audit.Tie as tie
+use lib.ListN.{length}
+use Rattle.driving.proofs.again.audit.Statement.{statement}
+use Rattle.driving.proofs.again.audit.Tie as tie
 
 abbrev Inv-loop : tie.InvT-loop
-Inv-loop times t bin-indices used-bins nodes free-nodes scratch₀ sound₀ i₀ scratch sound i = i ≤ times
+Inv-loop times t bin-indices used-bins nodes free-nodes scratch₀ sound₀ i₀ scratch sound i =
+    (i ≤ times) × (length scratch ≡ length scratch₀)
 
 abbrev μ-loop : tie.MeasureT-loop
 μ-loop times t bin-indices used-bins nodes free-nodes scratch₀ sound₀ i₀ scratch sound i = times - i
 
 loop-holds : tie.Need-loop-holds Inv-loop μ-loop
-loop-holds c = omega arith
+loop-holds c = (omega arith, refl)
 
 add-i : tie.Need-add-i Inv-loop μ-loop
 add-i c = omega arith
@@ -26,7 +29,10 @@ loop-less : tie.Need-loop-less Inv-loop μ-loop
 loop-less c = omega arith
 
 loop-again : tie.Need-loop-again Inv-loop μ-loop
-loop-again c = omega arith
+loop-again c = (omega arith, omega arith)
+
+same-length : tie.Need-same-length Inv-loop μ-loop
+same-length c = omega arith
 
 returns : tie.Need-returns Inv-loop μ-loop
 returns c = omega arith
@@ -43,4 +49,5 @@ audit-spec =
     is-sound-requires
     loop-less
     loop-again
+    same-length
     returns)
