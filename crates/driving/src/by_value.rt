@@ -12,9 +12,9 @@ struct State {
 
 fn step(
     state: State,
-    nodes: &mut [u32; 1048576],
-    free_nodes: &mut [u32; 131072],
-    out: &mut [u32; 262144],
+    nodes: &mut [u32; 1048584],
+    free_nodes: &mut [u32; 131073],
+    out: &mut [u32; 262146],
 ) -> State {
     let head = state.head;
     let before = state.draws;
@@ -40,9 +40,9 @@ fn step(
 fn run(
     start: State,
     calls: u32,
-    nodes: &mut [u32; 1048576],
-    free_nodes: &mut [u32; 131072],
-    out: &mut [u32; 262144],
+    nodes: &mut [u32; 1048584],
+    free_nodes: &mut [u32; 131073],
+    out: &mut [u32; 262146],
 ) -> State {
     let mut state = start;
     let mut i = 0u32;
@@ -55,9 +55,9 @@ fn run(
 
 fn drive_on(
     plan: Plan,
-    nodes: &mut [u32; 1048576],
-    free_nodes: &mut [u32; 131072],
-    out: &mut [u32; 262144],
+    nodes: &mut [u32; 1048584],
+    free_nodes: &mut [u32; 131073],
+    out: &mut [u32; 262146],
 ) -> Draws {
     let started = Head::with_max_allocs(Size(plan.size), plan.records, nodes, free_nodes);
     let head = started.head;
@@ -67,10 +67,10 @@ fn drive_on(
     end.draws
 }
 
-// A whole run, in tables for 131,072 records.
+// A whole run, in tables for 131,073 records: one more than document 01 allows, and a stack of 8 MiB holds them.
 pub fn drive(plan: Plan) -> Draws {
-    let mut nodes = [0u32; 1048576];
-    let mut free_nodes = [0u32; 131072];
-    let mut out = [0u32; 262144];
+    let mut nodes = [0u32; 1048584];
+    let mut free_nodes = [0u32; 131073];
+    let mut out = [0u32; 262146];
     drive_on(plan, &mut nodes, &mut free_nodes, &mut out)
 }

@@ -65,9 +65,9 @@ pub fn run(
 
 fn drive_on(
     plan: Plan,
-    nodes: &mut [u32; 1048576],
-    free_nodes: &mut [u32; 131072],
-    out: &mut [u32; 262144],
+    nodes: &mut [u32; 1048584],
+    free_nodes: &mut [u32; 131073],
+    out: &mut [u32; 262146],
 ) -> Draws {
     let mut bin_indices = [0u32; 256];
     let mut used_bins = [0u8; 32];
@@ -92,10 +92,10 @@ fn drive_on(
     end.draws
 }
 
-// A whole run, in tables for 131,072 records.
+// A whole run, in tables for 131,073 records: one more than document 01 allows, and a stack of 8 MiB holds them.
 pub fn drive(plan: Plan) -> Draws {
-    let mut nodes = [0u32; 1048576];
-    let mut free_nodes = [0u32; 131072];
-    let mut out = [0u32; 262144];
+    let mut nodes = [0u32; 1048584];
+    let mut free_nodes = [0u32; 131073];
+    let mut out = [0u32; 262146];
     drive_on(plan, &mut nodes, &mut free_nodes, &mut out)
 }
