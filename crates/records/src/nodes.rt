@@ -23,6 +23,7 @@ pub const USED: usize = 6;
 // An absent link.
 pub const NONE: u32 = 4294967295;
 
+// These three are for calls whose gate is open, which know that the record stands in the table: so they ask for that, and test nothing again.
 pub fn word(nodes: &[u32], node: Handle, k: usize) -> u32
     requires { ⌜ InTable (node .0) (now nodes) ⌝ }
     requires { ⌜ k < 8 ⌝ }
