@@ -11,7 +11,7 @@ use Rattle.tables.specs.Words.{Words, withNodes, withTotal, withLists, wordsFro
 use Rattle.tables.specs.Steps.{insert, insertAt, insertNodes, joinNodes, unlink, unlinkAt, popPile, pushPile}
 use Rattle.tables.specs.Setup.{tablesAlone, setupWords}
 use Rattle.tables.specs.Calls.{edition32, answerWords}
-use Rattle.small_float.specs.Class.{up}
+use Rattle.small_float.specs.Class.{roundedUp}
 use Rattle.audit_words.specs.Audit.{auditWords}
 
 -- a store of 100 units and 5 records
@@ -38,27 +38,27 @@ unfolding audited fresh left word
 fresh-yes = refl
 
 cut-up-yes : audited cut-up ≡ (done, left)
-unfolding audited cut-up left word up lib.Count.trailingZeros
+unfolding audited cut-up left word roundedUp lib.Count.trailingZeros
 cut-up-yes = refl
 
 -- ---- spoilt
 total-off : audited (withTotal cut-up 71) ≡ (refused 6, left)
-unfolding audited cut-up left word up lib.Count.trailingZeros
+unfolding audited cut-up left word roundedUp lib.Count.trailingZeros
 total-off = refl
 
 -- record 1, the live one, marked free: three free in a row
 two-free : audited (withNodes cut-up (put 1 used 0 (cut-up .nodes))) ≡ (refused 6, left)
-unfolding audited cut-up left word put up lib.Count.trailingZeros
+unfolding audited cut-up left word put roundedUp lib.Count.trailingZeros
 two-free = refl
 
 -- record 4, a spare one, marked live
 spare-live : audited (withNodes cut-up (put 4 used 1 (cut-up .nodes))) ≡ (refused 6, left)
-unfolding audited cut-up left word put up lib.Count.trailingZeros
+unfolding audited cut-up left word put roundedUp lib.Count.trailingZeros
 spare-live = refl
 
 -- record 0's chain goes round
 circular-chain : audited (withNodes cut-up (put 1 neighborNext 0 (cut-up .nodes))) ≡ (refused 6, left)
-unfolding audited cut-up left word put up lib.Count.trailingZeros
+unfolding audited cut-up left word put roundedUp lib.Count.trailingZeros
 circular-chain = refl
 
 -- ---- where the audit asks more than a call: one live region of 5 units under record 1, record 0 spare, and `link` for the record before it
@@ -87,7 +87,7 @@ unfolding fresh
 no-top-bit = withLists fresh 0 (fresh .usedBins) (fresh .binIndices) (fresh .nodes)
 
 granted-without-top-bit : answerWords edition32 (takes 96) no-top-bit .0 ≡ granted 0 0
-unfolding no-top-bit answerWords word up lib.Count.trailingZeros
+unfolding no-top-bit answerWords word roundedUp lib.Count.trailingZeros
 granted-without-top-bit = refl
 
 top-bit-asked-for : audited no-top-bit ≡ (refused 6, left)

@@ -1,6 +1,7 @@
 // The lowest class that holds something, by trailing zeros of a leaf byte, then of the top word; the highest bit, by leading zeros.
 ghost use mathlib.Core.Path.{_≡_};
 ghost use Prim.Native.Nat.{_+_, _/_, _<_};
+ghost use Rattle.small_float.specs.Class.{classesInUse};
 ghost use Rattle.tables.specs.Search.{lowFrom, lowInBin, findClass, highBit};
 ghost use Rattle.bitmap.specs.InBits.{Tells};
 use small_float::Class;
@@ -32,7 +33,7 @@ fn lowest_bit_set_from(m: u32, i: u32) -> u32
 
 // The lowest class above the top bin of c: in the next top bin that holds something, and there from leaf 0 on, whatever leaf c has.
 fn lowest_above(used_bins: &[u8; 32], used_bins_top: u32, c: Class) -> Found
-    requires { ⌜ c .0 < 248 ⌝ }
+    requires { ⌜ c .0 < classesInUse ⌝ }
     ensures { λ r. ⌜ Tells (lowInBin (now («used_bins» .entry)) (lowFrom «used_bins_top» (c .0 / 8 + 1))) r ⌝ }
 {
     let from = c.0;
@@ -49,9 +50,10 @@ fn lowest_above(used_bins: &[u8; 32], used_bins_top: u32, c: Class) -> Found
     Found::NoClass
 }
 
-// The lowest class from c on that holds something: in the top bin of c from its own leaf on, or above it.
+// The lowest class from c on that holds something: in the top bin of c from its own leaf on, or above it. The top bin of a class that a region can have
+// is not the last, so there is one above it.
 pub fn find_class(used_bins: &[u8; 32], used_bins_top: u32, c: Class) -> Found
-    requires { ⌜ c .0 < 248 ⌝ }
+    requires { ⌜ c .0 < classesInUse ⌝ }
     ensures { λ r. ⌜ Tells (findClass (now («used_bins» .entry)) «used_bins_top» (c .0)) r ⌝ }
 {
     let from = c.0;

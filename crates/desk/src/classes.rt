@@ -1,5 +1,6 @@
 // Document 01's table of size classes, and the smallest store of an object.
 use crate::text;
+use small_float::RoundedUp;
 use small_float::Size;
 use small_float::ext::Smallest;
 
@@ -19,13 +20,15 @@ const SIZES: [u32; 12] = [
     4294967295,
 ];
 
-// A size, its class rounded down and its class rounded up.
+// A size, its class rounded down and its class rounded up, or that it has none.
 fn print_row(size: u32) {
     let down = small_float::uint_to_float_round_down(Size(size));
-    let up = small_float::uint_to_float_round_up(Size(size));
     text::print_column(size, 10);
     text::print_column(down.0, 6);
-    text::print_column(up.0, 6);
+    match small_float::uint_to_float_round_up(Size(size)) {
+        RoundedUp::To(up) => text::print_column(up.0, 6),
+        RoundedUp::NoClass => text::print(b"  none"),
+    }
     text::print(b"\n");
 }
 

@@ -9,9 +9,9 @@ use Rattle.basics.specs.Sum.{is, tally}
 use Rattle.basics.proofs.Clash.{clash}
 use Rattle.basics.proofs.Decided.{Same, same, differ, same?, below, beyond, below?}
 use Rattle.basics.proofs.Sums.{tally-reverseAux, held-first}
-use Rattle.small_float.specs.Class.{down, up, classesInUse}
-use Rattle.small_float.proofs.Rounding.{fits, reaches, down-most}
-use Rattle.ledger.specs.Ledger.{Region, live, free, len, lowest, highest, stands, Stacked, Stacks, by-class}
+use Rattle.small_float.specs.Class.{down, up, classesInUse, roundedUp}
+use Rattle.small_float.proofs.Rounding.{fits, reaches, down-most, to-class, to-none, rounded?}
+use Rattle.ledger.specs.Ledger.{Region, live, free, len, lowest, lowestFrom, highest, stands, Stacked, Stacks, by-class}
 use Rattle.ledger.specs.Spans.{At, first, later, FreeIn}
 use Rattle.ledger.specs.Laws.{Laws, Chosen}
 use Rattle.ledger.proofs.Places.{at-weighs}
@@ -54,8 +54,16 @@ not-empty line stacks n w f e =
     omega (arith, at-weighs (f .2) (stands (down n) r), stands-own n r, w .exactly (down n) r, ap (tally (is r)) e)
 
 -- ---- the choice
+-- a size's number is that of its class, and where it has none no class from the number on is looked at: so the choice is a search from the number
+pub from-number : (s : ℕ) (stacks : Stacks) → lowestFrom stacks (roundedUp s) ≡ lowest stacks (classesInUse - up s) (up s)
+unfolding lowestFrom
+from-number s stacks = elim (rounded? s) [
+  | to-class low in-use e ↦ rw e
+  | to-none high past e ↦ let nothing : classesInUse - up s ≡ 0 = omega arith in rw (e, nothing)
+]
+
 chosen : (s r : ℕ) (line : List Region) (stacks : Stacks) → Stacked line stacks
-    → lowest stacks (classesInUse - up s) (up s) ≡ some r → Chosen by-class s r line stacks
+    → lowestFrom stacks (roundedUp s) ≡ some r → Chosen by-class s r line stacks
 chosen s r line stacks w e = go (lowest? stacks (classesInUse - up s) (up s))
   where
     of-top : (d : ℕ) (under : List ℕ) → up s ≤ d → stacks d ≡ r ∷ under → Standing d r line → Chosen by-class s r line stacks
@@ -70,14 +78,14 @@ chosen s r line stacks w e = go (lowest? stacks (classesInUse - up s) (up s))
         }
 
     go : Lowest stacks (classesInUse - up s) (up s) → Chosen by-class s r line stacks
-    go (all-empty m empty) = clash (cc)
+    go (all-empty m empty) = clash (cc (from-number s stacks))
     go (lowest-is d q under m h k top empty) =
-        let number : q ≡ r = cc in
+        let number : q ≡ r = cc (from-number s stacks) in
         let top-is : stacks d ≡ r ∷ under = rw number at top in
         of-top d under h top-is (held line stacks w d r under top-is)
 
 none-long : (s : ℕ) (line : List Region) (stacks : Stacks) → Stacked line stacks → tally len line < 2 ^ 32
-    → lowest stacks (classesInUse - up s) (up s) ≡ none → (n : ℕ) → FreeIn n line → down n < up s
+    → lowestFrom stacks (roundedUp s) ≡ none → (n : ℕ) → FreeIn n line → down n < up s
 none-long s line stacks w small e n f = go (lowest? stacks (classesInUse - up s) (up s))
   where
     go : Lowest stacks (classesInUse - up s) (up s) → down n < up s
@@ -85,7 +93,7 @@ none-long s line stacks w small e n f = go (lowest? stacks (classesInUse - up s)
       | below h k ↦ h
       | beyond h k ↦ absurd (not-empty line stacks n w f (empty (down n) h (omega (arith, in-use line n small f))))
     ]
-    go (lowest-is d q under m a k top empty) = clash (cc)
+    go (lowest-is d q under m a k top empty) = clash (cc (from-number s stacks))
 
 told : (s : ℕ) (line : List Region) (stacks : Stacks) → Stacked line stacks → tally len line < 2 ^ 32 → ((n : ℕ) × FreeIn n line)
     → (s ≤ highest stacks classesInUse) ↔ ((n : ℕ) × FreeIn n line × (up s ≤ down n))

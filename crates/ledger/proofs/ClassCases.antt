@@ -13,7 +13,7 @@ use Rattle.ledger.specs.WellFormed.{has, WellFormed}
 use Rattle.ledger.proofs.Places.{Between, between-at, same-region}
 use Rattle.ledger.proofs.Records.{once-in-line}
 use Rattle.ledger.proofs.Searches.{Lowest, all-empty, lowest-is, lowest?}
-use Rattle.ledger.proofs.ByClass.{class-laws, standing, held}
+use Rattle.ledger.proofs.ByClass.{class-laws, standing, held, from-number}
 use Rattle.ledger.proofs.Cases as over
 use Rattle.ledger.proofs.Cases.{placed}
 
@@ -69,10 +69,10 @@ take-case {l = l} w s = go (over.take-case by-class class-laws w s) (lowest? (l 
     go : over.TakeCase by-class s l → Lowest (l .index) (classesInUse - up s) (up s) → TakeCase s l
     go (over.few-spares h e) x = few-spares h e
     go (over.no-region h m e) (all-empty k empty) = no-region h (λ c a b. empty c a (omega arith)) e
-    go (over.no-region h m e) (lowest-is d q under k a b top empty) = clash (cc)
-    go (over.serves t) (all-empty k empty) = clash (cc (t .chosen))
+    go (over.no-region h m e) (lowest-is d q under k a b top empty) = clash (cc (from-number s (l .index)))
+    go (over.serves t) (all-empty k empty) = clash (cc (t .chosen, from-number s (l .index)))
     go (over.serves t) (lowest-is d q under k a b top empty) =
-        let number : q ≡ t .r = cc (t .chosen) in
+        let number : q ≡ t .r = cc (t .chosen, from-number s (l .index)) in
         let top-is : l .index d ≡ t .r ∷ under = rw number at top in
         let h = held (l .line) (l .index) (w .kept) d (t .r) under top-is in
         let both : free (h .n) (t .r) ≡ free (t .n) (t .r)

@@ -1,21 +1,22 @@
 -- A grant by classes: of the lowest non-empty class at or above up(s), the region put there last; its remainder goes on top of its class.
 -- Assumes nothing.
 use mathlib.Core.Path.{_≡_, refl, ap, sym, subst}
-use Prim.Native.Nat.{ℕ, zero, suc, _-_}
+use Prim.Native.Nat.{ℕ, zero, suc, _-_, _≤_}
 use native.Mathlib.Omega.{arith}
 use mathlib.Core.Logic.{_≢_}
 use mathlib.Core.List.{List, _∷_}
 use lib.ListN.{getD}
 use Rattle.basics.proofs.Clash.{clash}
 use Rattle.basics.proofs.Decided.{same, differ, same?, eqb-same, below, beyond, below?}
-use Rattle.small_float.specs.Class.{down, up, classesInUse}
+use Rattle.small_float.specs.Class.{down, up, classesInUse, roundedUp, Reaches}
+use Rattle.small_float.proofs.Rounding.{reaches-number}
 use Rattle.ledger.specs.Ledger.{Ledger, Stacks, by-class, Region, free, onTop, remove, without, cut, take, granted}
 use Rattle.ledger.specs.WellFormed.{WellFormed}
 use Rattle.ledger.specs.Claims.{Grant, Remainder, nothing-left, next-record, OnTop, ClassGrant}
 use Rattle.ledger.proofs.Places.{between-at, same-region}
 use Rattle.ledger.proofs.Records.{once-in-line}
 use Rattle.ledger.proofs.Searches.{Lowest, all-empty, lowest-is, lowest?}
-use Rattle.ledger.proofs.ByClass.{class-laws, held}
+use Rattle.ledger.proofs.ByClass.{class-laws, held, from-number}
 use Rattle.ledger.proofs.Cases.{Serving, TakeCase, few-spares, no-region, serves, take-case}
 use Rattle.ledger.proofs.Grants.{the-grant}
 
@@ -69,11 +70,11 @@ class-grant size count s o r l w e = go (lowest? (l .index) (classesInUse - up s
     g = the-grant by-class class-laws size count s o r l w e
 
     go : Lowest (l .index) (classesInUse - up s) (up s) → TakeCase by-class s l → ClassGrant s o r l
-    go (all-empty m empty) c = clash (cc (g .chosen))
+    go (all-empty m empty) c = clash (cc (g .chosen, from-number s (l .index)))
     go (lowest-is d q under m h k top empty) (few-spares j f) = clash (cc)
     go (lowest-is d q under m h k top empty) (no-region j i f) = clash (cc)
     go (lowest-is d q under m h k top empty) (serves x) =
-        let number : q ≡ r = cc (g .chosen) in
+        let number : q ≡ r = cc (g .chosen, from-number s (l .index)) in
         let top-is : l .index d ≡ r ∷ under = rw number at top in
         let t = held (l .line) (l .index) (w .kept) d r under top-is in
         let both : free (g .length-before) r ≡ free (t .n) r = same-region (g .was-free) (t .there) r refl refl (once-in-line (w .lined) r) in
@@ -83,15 +84,16 @@ class-grant size count s o r l w e = go (lowest? (l .index) (classesInUse - up s
         let one-region : free (x .n) (x .r) ≡ free (g .length-before) r
         = same-region (between-at (x .place)) (g .was-free) r its-number refl (once-in-line (w .lined) r) in
         let one-length : x .n ≡ g .length-before = cc in
+        let number-reached : (c : ℕ) → c ≤ d → Reaches c (roundedUp s) → up s ≤ c = λ c j z. reaches-number s c (omega arith) .0 z in
         record {
           of-grant = g;
           class = d;
           below = under;
           lowest-class = (
-            (h, λ z. clash (cc)),
-            λ c z. elim (below? c d) [ below j f ↦ absurd (z .1 (empty c (z .0) j)) | beyond j f ↦ j ],
+            (reaches-number s d (omega arith) .1 h, λ z. clash (cc)),
+            λ c z. elim (below? c d) [ below j f ↦ absurd (z .1 (empty c (number-reached c (omega arith) (z .0)) j)) | beyond j f ↦ j ],
           );
-          none-lower = empty;
+          none-lower = λ c z j. empty c (number-reached c (omega arith) z) j;
           put-last = top-is;
           of-class = class-is;
           stacks-between = without (down (g .length-before)) r (l .index);

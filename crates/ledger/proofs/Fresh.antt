@@ -5,7 +5,9 @@ use native.Mathlib.Omega.{arith}
 use mathlib.Core.Logic.{_↔_}
 use mathlib.Core.List.{[]}
 use lib.ListN.{length}
+use Rattle.small_float.specs.Class.{down, up}
 use Rattle.small_float.specs.Facts.{Serves}
+use Rattle.small_float.proofs.Rounding.{down-most, reaches-number}
 use Rattle.ledger.specs.Ledger.{Ledger, Stacks, by-class, free, setup}
 use Rattle.ledger.specs.WellFormed.{WellFormed}
 use Rattle.ledger.specs.Spans.{At, first, FreeIn}
@@ -34,6 +36,10 @@ module _ (size count : ℕ) (small : size < 2 ^ 32) (three : 3 ≤ count) where
   unfolding fresh setup
   whole-free = (0, 0, first)
 
+  -- its class reaches the class exactly if it reaches the number
+  by-number : (s : ℕ) → Serves size s ↔ (up s ≤ down size)
+  by-number s = reaches-number s (down size) (omega (arith, down-most size small))
+
   -- its one region
   the-one : (n r o : ℕ) → At (free n r) o (fresh .line) → n ≡ size
   unfolding fresh setup
@@ -51,11 +57,11 @@ module _ (size count : ℕ) (small : size < 2 ^ 32) (three : 3 ≤ count) where
       reached g =
           let t = the-grant by-class class-laws size count s (g .0) (g .1) (setup by-class size count) well (g .2) in
           let one-length = the-one (t .length-before) (g .1) (g .0) (t .was-free) in
-          rw one-length at (t .reaching)
+          by-number s .1 (rw one-length at (t .reaching))
 
       granted-one : Serves size s → TakeCase by-class s (setup by-class size count) → Granted by-class s (setup by-class size count)
       granted-one h (few-spares k e) = absurd (omega (arith, two-spare))
       granted-one h (no-region k m e) =
           let none = refusal-4 by-class class-laws size count small s (setup by-class size count) well .0 (ap (λ a. a .0) e) .1 in
-          absurd (omega (arith, none size whole-free))
+          absurd (omega (arith, none size whole-free, by-number s .0 h))
       granted-one h (serves t) = (_, _, ap (λ a. a .0) (t .outcome))

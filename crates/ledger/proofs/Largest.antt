@@ -1,15 +1,16 @@
--- The report's second number by classes, and the classes that do not reach a request. Assumes nothing.
+-- The report's second number by classes, the classes that do not reach a request, and requests without a class. Assumes nothing.
 use mathlib.Core.Path.{_≡_, ap, _∙_}
 use Prim.Native.Nat.{ℕ, _^_, _≤_, _<_}
 use native.Mathlib.Omega.{arith}
+use mathlib.Core.Bool.{cond}
 use mathlib.Core.Logic.{_↔_, _≢_}
 use mathlib.Core.List.{List, [], _∷_}
 use lib.ListN.{length}
 use Rattle.basics.proofs.Clash.{clash}
 use Rattle.basics.proofs.Decided.{same, differ, same?, below, beyond, below?}
-use Rattle.small_float.specs.Class.{down, up, value, classesInUse}
-use Rattle.small_float.proofs.Rounding.{down-most}
-use Rattle.ledger.specs.Ledger.{Ledger, Stacks, by-class, free, len, highest, report}
+use Rattle.small_float.specs.Class.{down, up, value, classesInUse, greatestServed, roundedUp, Reaches}
+use Rattle.small_float.proofs.Rounding.{down-most, reaches-number, rounded-to-none}
+use Rattle.ledger.specs.Ledger.{Ledger, Stacks, by-class, free, len, refused, spares, lowestFrom, highest, take, report}
 use Rattle.ledger.specs.WellFormed.{WellFormed}
 use Rattle.ledger.specs.Spans.{At}
 use Rattle.ledger.specs.Claims.{NoneReaches}
@@ -18,9 +19,10 @@ use Rattle.ledger.proofs.Searches.{Highest, all-empty, highest-is, high
 use Rattle.ledger.proofs.ByClass.{class-laws, held}
 use Rattle.ledger.proofs.ReportRule.{report-largest}
 
-pub none-reaches-by-class : (s : ℕ) (l : Ledger Stacks)
-    → NoneReaches by-class s l ↔ ((n r o : ℕ) → At (free n r) o (l .line) → down n < up s)
-none-reaches-by-class s l = (λ none n r o a. none n (o, r, a), λ none n f. none n (f .1) (f .0) (f .2))
+-- ---- a size without a class
+pub no-class : (s : ℕ) (l : Ledger Stacks) → greatestServed < s → take by-class s l ≡ (refused (cond (spares l) 4 3), l)
+unfolding take lowestFrom
+no-class s l h = elim (below? 1 (length (l .pile))) [ below k e ↦ rw (e, rounded-to-none s h) | beyond k e ↦ rw e ]
 
 pub largest-none : (l : Ledger Stacks) → 2 ≤ length (l .pile) → ((c : ℕ) → l .index c ≡ []) → report by-class l .1 ≡ 0
 largest-none l two empty = report-largest by-class class-laws l two ∙ go (highest? (l .index) classesInUse)
@@ -30,6 +32,20 @@ largest-none l two empty = report-largest by-class class-laws l two ∙ go (high
     go (highest-is d r under m h top e) = let none : l .index d ≡ [] = empty d in clash (cc)
 
 module _ (size count : ℕ) (small : size < 2 ^ 32) where
+  pub none-reaches-by-class : (s : ℕ) (l : Ledger Stacks) → WellFormed by-class size count l
+      → NoneReaches by-class s l ↔ ((n r o : ℕ) → At (free n r) o (l .line) → ¬ Reaches (down n) (roundedUp s))
+  none-reaches-by-class s l w = (
+    λ none n r o a h. omega (arith, none n (o, r, a), reached n r o a .0 h),
+    λ none n f. elim (below? (down n) (up s)) [
+      | below h e ↦ h
+      | beyond h e ↦ absurd (none n (f .1) (f .0) (f .2) (reached n (f .1) (f .0) (f .2) .1 h))
+    ],
+  )
+    where
+      -- a free region's class is one that a region can have, so it reaches the class exactly if it reaches the number
+      reached : (n r o : ℕ) → At (free n r) o (l .line) → Reaches (down n) (roundedUp s) ↔ (up s ≤ down n)
+      reached n r o a = reaches-number s (down n) (omega (arith, down-most n (omega (arith, at-weighs a len, w .lined .cover))))
+
   pub largest-is : (l : Ledger Stacks) → WellFormed by-class size count l → 2 ≤ length (l .pile)
       → (c : ℕ) → l .index c ≢ [] → ((d : ℕ) → c < d → l .index d ≡ []) → report by-class l .1 ≡ value c
   largest-is l w two c some-there none-above = report-largest by-class class-laws l two ∙ go (highest? (l .index) classesInUse)

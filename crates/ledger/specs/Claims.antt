@@ -11,11 +11,11 @@ use lib.ListN.{length, getD, replicate, drop}
 use lib.Dec.{eqb, ltb}
 use Rattle.basics.specs.Sum.{one, is, tally}
 use Rattle.basics.specs.Extreme.{Least}
-use Rattle.small_float.specs.Class.{down, up, value}
+use Rattle.small_float.specs.Class.{down, value, greatestServed, roundedUp, Reaches}
 use Rattle.small_float.specs.Facts.{Serves}
 use Rattle.small_float.specs.LastValues.{lastValues}
 use Rattle.ledger.specs.Ledger.{Engine, by-class, Stacks, Ledger, Region, live, free, len, rec, granted, done, length-is, refused}
-use Rattle.ledger.specs.Ledger.{setup, take, sizeOf, freeLen, report, fullReport, numbersFrom}
+use Rattle.ledger.specs.Ledger.{setup, spares, take, sizeOf, freeLen, report, fullReport, numbersFrom}
 use Rattle.ledger.specs.Calls.{Request, Token, SizeOf, Call, Take, HandBack, Reset, Ask, spanOf, handsBack, answer, end, answers, log}
 use Rattle.ledger.specs.Figures.{refusalOf, figureCount, figuresOf}
 use Rattle.ledger.specs.WellFormed.{WellFormed}
@@ -30,7 +30,7 @@ Granted E s l = (o : ℕ) × (r : ℕ) × (take E s l .0 ≡ granted o r)
 abbrev pub Refused : (E : Engine) → ℕ → Ledger (E .Index) → Type 0
 Refused E s l = (k : ℕ) × (take E s l .0 ≡ refused k)
 
--- no free region reaches the request; with document 01's engine no free region's class does, for it says `down n < up s`
+-- no free region reaches the request; with document 01's engine no free region's class does (`none-reaches-by-class`)
 abbrev pub NoneReaches : (E : Engine) → ℕ → Ledger (E .Index) → Type 0
 NoneReaches E s l = (n : ℕ) → FreeIn n (l .line) → E .rank n < E .need s
 
@@ -219,8 +219,8 @@ pub record ClassGrant (s o r : ℕ) (l : Ledger Stacks) : Type 0 where
   pub of-grant : Grant by-class s o r l
   pub class : ℕ
   pub below : List ℕ
-  pub lowest-class : Least (λ c. (up s ≤ c) × (l .index c ≢ [])) class
-  pub none-lower : (c : ℕ) → up s ≤ c → c < class → l .index c ≡ []
+  pub lowest-class : Least (λ c. Reaches c (roundedUp s) × (l .index c ≢ [])) class
+  pub none-lower : (c : ℕ) → Reaches c (roundedUp s) → c < class → l .index c ≡ []
   pub put-last : l .index class ≡ r ∷ below
   pub of-class : down (of-grant .length-before) ≡ class
   -- it leaves the top of its stack, and the remainder "goes on top of its class"
@@ -252,8 +252,10 @@ pub record ClassClaims (size count : ℕ) : Type 0 where
   pub stack-distinct : (l : Ledger Stacks) → WellFormed by-class size count l → (c : ℕ) (xs ys : List ℕ) (r : ℕ)
       → l .index c ≡ xs ++ (r ∷ ys) → (¬ Among r xs) × (¬ Among r ys)
   -- "no free region's class reaches up(s)"
-  pub none-reaches-by-class : (s : ℕ) (l : Ledger Stacks)
-      → NoneReaches by-class s l ↔ ((n r o : ℕ) → At (free n r) o (l .line) → down n < up s)
+  pub none-reaches-by-class : (s : ℕ) (l : Ledger Stacks) → WellFormed by-class size count l
+      → NoneReaches by-class s l ↔ ((n r o : ℕ) → At (free n r) o (l .line) → ¬ Reaches (down n) (roundedUp s))
+  -- document 02: "let take (still refusal 4, after 3) .. read it": of a size without a class, in any ledger at all
+  pub no-class : (s : ℕ) (l : Ledger Stacks) → greatestServed < s → take by-class s l ≡ (refused (cond (spares l) 4 3), l)
   -- "the value of the highest non-empty class (0 if none)"
   pub largest-is : (l : Ledger Stacks) → WellFormed by-class size count l → 2 ≤ length (l .pile)
       → (c : ℕ) → l .index c ≢ [] → ((d : ℕ) → c < d → l .index d ≡ []) → report by-class l .1 ≡ value c

@@ -9,7 +9,7 @@ use mathlib.Core.List.{List, [], _∷_, _++_, map, reverseAux}
 use lib.ListN.{length, getD, drop}
 use lib.Dec.{eqb, ltb}
 use Rattle.basics.specs.Sum.{one, is, tally}
-use Rattle.small_float.specs.Class.{down, up, value, classesInUse}
+use Rattle.small_float.specs.Class.{down, up, value, classesInUse, roundedUp}
 
 -- ---- the state
 -- A region: its length and its record number, live or free. Its offset is the sum of the lengths before it.
@@ -89,6 +89,12 @@ unfolding topOr
 lowest stacks zero c = none
 lowest stacks (suc n) c = let above = lowest stacks n (suc c) in topOr (stacks c) above
 
+-- "of the lowest non-empty class at or above up(s), the region put there last", of the classes that a region can have; where a size has no class, none
+unfoldable pub lowestFrom : Stacks → Option ℕ → Option ℕ
+unfolding lowest
+lowestFrom stacks none = none
+lowestFrom stacks (some c) = lowest stacks (classesInUse - c) c
+
 -- "the value of the highest non-empty class (0 if none)", of the classes below n
 unfoldable pub valueOr : List ℕ → ℕ → ℕ → ℕ
 valueOr [] c otherwise = otherwise
@@ -127,10 +133,10 @@ by-class = record {
   -- "goes on top of its class"
   enter = λ n r stacks. onTop (down n) r stacks;
   leave = λ n r stacks. without (down n) r stacks;
-  -- "of the lowest non-empty class at or above up(s), the region put there last"
-  choose = λ s line stacks. lowest stacks (classesInUse - up s) (up s);
+  choose = λ s line stacks. lowestFrom stacks (roundedUp s);
   largest = λ line stacks. highest stacks classesInUse;
   full = fullOf;
+  -- as numbers, for the claims over every engine; ClassClaims says them by `roundedUp`
   need = up;
   rank = down;
   Kept = Stacked;

@@ -99,6 +99,14 @@ pub record NearlyRight : Type 0 where
       (takes 20 ∷ takes 30 ∷ hands-back 0 0 ∷ hands-back 20 1 ∷ Reset ∷ takes 50 ∷ asks-size 0 0 ∷ asks-size 20 1 ∷ [])
       (granted 0 0 ∷ granted 20 1 ∷ done ∷ done ∷ done ∷ granted 0 0 ∷ length-is 50 ∷ refused 5 ∷ [])
 
+-- ---- "Sizes with no class say so"
+pub record SizesWithoutClass : Type 0 where
+  -- the greatest store grants 4,026,531,840 and no more, though its one region is longer
+  pub in-the-greatest-store : Answering 4_294_967_295 3 (takes 4_294_967_295 ∷ takes 4_026_531_841 ∷ takes 4_026_531_840 ∷ [])
+      (refused 4 ∷ refused 4 ∷ granted 0 0 ∷ [])
+  -- "still refusal 4, after 3": with one spare record the answer is 3
+  pub after-3 : Answering 100 3 (takes 4_294_967_295 ∷ takes 20 ∷ takes 4_294_967_295 ∷ []) (refused 4 ∷ granted 0 0 ∷ refused 3 ∷ [])
+
 -- ---- "Zero-length spans are ordinary regions"
 pub record ZeroLength : Type 0 where
   -- "two may share an offset"

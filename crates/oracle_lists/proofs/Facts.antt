@@ -1,8 +1,8 @@
 -- What can be said of lists holds. Assumes nothing.
 use mathlib.Core.Path.{refl}
-use Rattle.small_float.specs.Class.{value}
-use Rattle.oracle_lists.specs.Verdicts.{classVerdict}
-use Rattle.oracle_lists.specs.Facts.{none, number-more, ClassRows, ListFacts}
+use Rattle.small_float.specs.Class.{down, value, roundedUp}
+use Rattle.oracle_lists.specs.Verdicts.{sizeVerdict, classVerdict}
+use Rattle.oracle_lists.specs.Facts.{none, number-more, ClassRows, SizeRows, ListFacts}
 use Rattle.oracle_lists.proofs.Reading.{row-read}
 use Rattle.oracle_lists.proofs.JudgedOnce.{row-judged, comparison-reads}
 use Rattle.oracle_lists.proofs.Adding.{adds-up}
@@ -20,6 +20,19 @@ class-rows = record {
   behind-the-list = refl;
 }
 
+size-rows : SizeRows
+unfolding sizeVerdict down value roundedUp
+size-rows = record {
+  last-with-a-class = refl;
+  not-its-class = refl;
+  not-its-store = refl;
+  first-without = refl;
+  last-without = refl;
+  another-class = refl;
+  another-store = refl;
+  another-down = refl;
+}
+
 pub list-facts : ListFacts
 list-facts = record {
   row-read = row-read;
@@ -33,6 +46,7 @@ list-facts = record {
   comparison-reads = comparison-reads;
   row-judged = row-judged;
   class-rows = class-rows;
+  size-rows = size-rows;
   adds-up-exactly = adds-up-exactly;
   hides-none = hides-none;
   names-none = names-none;

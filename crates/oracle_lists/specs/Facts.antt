@@ -13,7 +13,7 @@ use Rattle.oracle_lists.specs.declared.tally.Verdict.the-variants.{Agree
 use Rattle.oracle_lists.specs.declared.classes.Comparison.{Comparison}
 use Rattle.oracle_lists.specs.Rows.{fresh, ended, fedAll, endsWell}
 use Rattle.oracle_lists.specs.Tally.{counted}
-use Rattle.oracle_lists.specs.Verdicts.{classVerdict, rowVerdict}
+use Rattle.oracle_lists.specs.Verdicts.{sizeVerdict, classVerdict, rowVerdict}
 use Rattle.oracle_lists.specs.Comparison.{noBytes, afterBytes}
 
 -- a text is a number in decimal
@@ -70,6 +70,17 @@ pub record ClassRows : Type 0 where
   pub last-of-the-list : classVerdict 263 2_147_483_648 ≡ Listed
   pub behind-the-list : classVerdict 264 0 ≡ Differs
 
+-- rows of sizes, judged: up to 4,026,531,840 a row agrees or differs; above, the Rust's 240 and 0 are listed, and nothing else is
+pub record SizeRows : Type 0 where
+  pub last-with-a-class : sizeVerdict 4_026_531_840 239 239 4_026_531_840 ≡ Agrees
+  pub not-its-class : sizeVerdict 4_026_531_840 239 240 4_026_531_840 ≡ Differs
+  pub not-its-store : sizeVerdict 4_026_531_840 239 239 0 ≡ Differs
+  pub first-without : sizeVerdict 4_026_531_841 239 240 0 ≡ Listed
+  pub last-without : sizeVerdict 4_294_967_295 239 240 0 ≡ Listed
+  pub another-class : sizeVerdict 4_026_531_841 239 239 0 ≡ Differs
+  pub another-store : sizeVerdict 4_026_531_841 239 240 4_026_531_840 ≡ Differs
+  pub another-down : sizeVerdict 4_026_531_841 240 240 0 ≡ Differs
+
 pub record ListFacts : Type 0 where
   -- a letter, up to four numbers and a newline are read as that row
   pub row-read : (r : Reader) (letter : ℕ) {text ns : List ℕ}
@@ -102,6 +113,7 @@ pub record ListFacts : Type 0 where
       → afterBytes p (rowText letter text)
       ≡ record { reader = rowRead letter ns; tally = counted (p .tally) (rowVerdict (rowRead letter ns)) }
   pub class-rows : ClassRows
+  pub size-rows : SizeRows
   -- what a tally that adds up says of its counters: neither less nor more
   pub adds-up-exactly : (t : Tally) → AddsUp t ↔ ((t .agreed + t .listed + t .other ≡ t .rows) × ((t .first ≡ 0) ↔ (t .other ≡ 0)))
   -- a tally that adds up and names no row hides none: all its rows agreed or are listed; and where they all do, it names none

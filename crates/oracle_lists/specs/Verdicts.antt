@@ -1,22 +1,36 @@
 -- When a row of the list of size classes agrees with the port, and when it shows a listed difference. Assumes nothing.
 use Prim.Native.Nat.{ℕ, _%_, _^_}
 use mathlib.Core.Bool.{cond}
+use mathlib.Core.Option.{Option, none, some}
 use lib.Dec.{eqb, ltb}
-use Rattle.small_float.specs.Class.{down, up, value, greatestServed}
+use Rattle.small_float.specs.Class.{down, value, roundedUp}
 use Rattle.oracle_lists.specs.declared.rows.Reader.{Reader}
 use Rattle.oracle_lists.specs.declared.tally.Verdict.{Verdict}
 use Rattle.oracle_lists.specs.declared.tally.Verdict.the-variants.{Agrees, Listed, Differs}
 
--- the smallest store: the port's up to 4,026,531,840; above, the Rust gives 0 and the port refuses
-unfoldable pub servedVerdict : ℕ → ℕ → Verdict
-servedVerdict size smallest =
-    cond (ltb greatestServed size) (cond (eqb smallest 0) Listed Differs)
-    (cond (eqb (value (up size)) smallest) Agrees Differs)
+-- the class that a size is rounded up to; where the port has none, the Rust gives 240
+unfoldable pub upVerdict : Option ℕ → ℕ → Verdict
+upVerdict (some class) u = cond (eqb class u) Agrees Differs
+upVerdict none u = cond (eqb u 240) Listed Differs
+
+-- the smallest store, the value of that class; where the port refuses, the Rust gives 0
+unfoldable pub servedVerdict : Option ℕ → ℕ → Verdict
+servedVerdict (some class) smallest = cond (eqb (value class) smallest) Agrees Differs
+servedVerdict none smallest = cond (eqb smallest 0) Listed Differs
+
+-- two verdicts on one row: it agrees if both do, and differs if one does
+abbrev pub together : Verdict → Verdict → Verdict
+together Agrees other = other
+together Listed Agrees = Listed
+together Listed Listed = Listed
+together Listed Differs = Differs
+together Differs other = Differs
 
 -- a size, its class rounded down, its class rounded up and its smallest store
 unfoldable pub sizeVerdict : ℕ → ℕ → ℕ → ℕ → Verdict
+unfolding upVerdict servedVerdict
 sizeVerdict size d u smallest =
-    cond (eqb (down size) d) (cond (eqb (up size) u) (servedVerdict size smallest) Differs) Differs
+    cond (eqb (down size) d) (together (upVerdict (roundedUp size) u) (servedVerdict (roundedUp size) smallest)) Differs
 
 -- a class and its value; the Rust gives the low 32 bits of it, from class 240 on a listed difference. The list has no class above 263
 unfoldable pub classVerdict : ℕ → ℕ → Verdict

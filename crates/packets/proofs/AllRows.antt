@@ -2,7 +2,7 @@
 use mathlib.Core.Path.{refl}
 use mathlib.Core.List.{[], _∷_}
 use lib.Count.{leadingZeros, trailingZeros}
-use Rattle.small_float.specs.Class.{up, value}
+use Rattle.small_float.specs.Class.{roundedUp, value}
 use Rattle.tables.specs.Layout.{word, put, putLink}
 use Rattle.tables.specs.Steps.{insertNodes, joinNodes, insertAt, insert, unlinkAt, unlink, pushPile, popPile}
 use Rattle.tables.specs.Gate.{setupGate}
@@ -23,7 +23,7 @@ a-stretch : PacketStretch [] []
     (history (takes 1 ∷ takes 9 ∷ takes 2 ∷ takes 99 ∷ fills OnChip 1 1 (1 ∷ []) ∷ fills OnChip 1 1 (1 ∷ 2 ∷ 3 ∷ []) ∷ reads External 0 0
     ∷ asks-length OnChip 0 0 ∷ asks-report External ∷ Auditing OnChip 4
     ∷ hands-back OnChip 1 1 ∷ hands-back OnChip 0 0 ∷ hands-back External 0 0 ∷ hands-back External 0 0 ∷ []) fresh)
-unfolding history left fresh packetWords setUpBothWords auditIn setupWords setupGate answerWords auditWords up value word
+unfolding history left fresh packetWords setUpBothWords auditIn setupWords setupGate answerWords auditWords roundedUp value word
     put putLink insert insertAt insertNodes joinNodes unlink unlinkAt pushPile popPile leadingZeros trailingZeros
 a-stretch =
     stretch.grants-on-chip (stretch.grants-outside (stretch.grants-on-chip (stretch.refuses (stretch.fills (stretch.fills (stretch.reads
@@ -31,7 +31,7 @@ a-stretch =
     (stretch.returns-on-chip (stretch.returns-on-chip (stretch.returns-outside (stretch.refuses stretch.ended)))))))))))))
 
 pub packet-rows : PacketRows
-unfolding answersOf left history fresh with-packets packetWords setUpWords setUpBothWords auditIn madeOn setupWords setupGate answerWords auditWords up
+unfolding answersOf left history fresh with-packets packetWords setUpWords setUpBothWords auditIn madeOn setupWords setupGate answerWords auditWords roundedUp
     value word put putLink insert insertAt insertNodes joinNodes unlink unlinkAt pushPile popPile leadingZeros trailingZeros contents shelf filledSince
     allTold
 packet-rows = record {

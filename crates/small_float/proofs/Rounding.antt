@@ -4,8 +4,10 @@ use Prim.Native.Nat.{ℕ, zero, suc, _+_, _*_, _^_, _≤_, _<_}
 use native.Mathlib.Nat.{mul-le-mul-right}
 use native.Mathlib.Omega.{arith}
 use mathlib.Core.Logic.{_↔_}
+use mathlib.Core.Option.{Option, none, some}
+use borrow.Author.Tests.{lt-ltb, le-ltb}
 use Rattle.basics.proofs.Decided.{Below, below, beyond, below?}
-use Rattle.small_float.specs.Class.{down, oneIfAny, up, value, greatestServed}
+use Rattle.small_float.specs.Class.{down, oneIfAny, up, value, classesInUse, greatestServed, roundedUp, Reaches}
 use Rattle.small_float.proofs.Parts.{Parts, parts, down-small, up-small}
 use Rattle.small_float.proofs.Values.{value-small, value-at, value-lt, value-le, value-239, value-240}
 
@@ -109,9 +111,6 @@ down-most s h = elim (below? (down s) 240) [
   | beyond p e ↦ absurd (omega (arith, value-le 240 (down s) p, down-value s, value-240))
 ]
 
-pub up-most : (s : ℕ) → s < 2 ^ 32 → up s ≤ 240
-up-most s h = up-smallest s 240 (omega (arith, value-240))
-
 -- up to 4,026,531,840 the class rounded up is one that a region can have, and above it is not
 pub up-served : (s : ℕ) → s ≤ greatestServed → up s ≤ 239
 up-served s h = up-smallest s 239 (omega (arith, value-239))
@@ -120,4 +119,30 @@ pub up-unserved : (s : ℕ) → greatestServed < s → 240 ≤ up s
 up-unserved s h = elim (below? (up s) 240) [
   | below p e ↦ absurd (omega (arith, up-value s, value-le (up s) 239 (omega arith), value-239))
   | beyond p e ↦ p
+]
+
+-- ---- what a size is rounded up to: a class that a region can have, or none
+pub rounded-to-none : (s : ℕ) → greatestServed < s → roundedUp s ≡ none
+unfolding roundedUp
+rounded-to-none s h = rw (lt-ltb greatestServed s h)
+
+pub rounded-to-class : (s : ℕ) → s ≤ greatestServed → roundedUp s ≡ some (up s)
+unfolding roundedUp
+rounded-to-class s h = rw (le-ltb greatestServed s h)
+
+pub data Rounded (s : ℕ) : Type 0 where
+  to-class : s ≤ greatestServed → up s < classesInUse → roundedUp s ≡ some (up s) → Rounded s
+  to-none : greatestServed < s → classesInUse ≤ up s → roundedUp s ≡ none → Rounded s
+
+pub rounded? : (s : ℕ) → Rounded s
+rounded? s = elim (below? greatestServed s) [
+  | below h e ↦ to-none h (up-unserved s h) (rounded-to-none s h)
+  | beyond h e ↦ to-class h (omega (arith, up-served s h)) (rounded-to-class s h)
+]
+
+-- a class that a region can have reaches it exactly if it reaches the number
+pub reaches-number : (s c : ℕ) → c < classesInUse → Reaches c (roundedUp s) ↔ (up s ≤ c)
+reaches-number s c h = elim (rounded? s) [
+  | to-class low in-use e ↦ rw e (λ k. k, λ k. k)
+  | to-none high past e ↦ rw e (λ k. absurd k, λ k. absurd (omega arith))
 ]

@@ -1,11 +1,11 @@
 -- Document 01's rows marked P, computed. Assumes nothing.
 use mathlib.Core.Path.{refl, sym, ap}
-use Rattle.small_float.specs.Class.{down, up}
+use Rattle.small_float.specs.Class.{down, roundedUp}
 use Rattle.small_float.specs.Table.{rowsMarkedP, rowOf, RowsAreRight, RowByRow}
 use Rattle.small_float.proofs.Rows.{each-row}
 
 pub rows-are-right : RowsAreRight
-unfolding down up
+unfolding down roundedUp
 rows-are-right = refl
 
 pub row-by-row : RowByRow

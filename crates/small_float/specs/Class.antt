@@ -1,6 +1,7 @@
--- Size classes, as document 01 gives them, on numbers of any size. Assumes nothing.
-use Prim.Native.Nat.{ℕ, zero, suc, _+_, _-_, _*_, _/_, _%_, _^_}
+-- Size classes, as document 01 gives them, on numbers of any size, and document 02's sizes without a class. Assumes nothing.
+use Prim.Native.Nat.{ℕ, zero, suc, _+_, _-_, _*_, _/_, _%_, _^_, _≤_}
 use mathlib.Core.Bool.{cond}
+use mathlib.Core.Option.{Option, none, some}
 use lib.Dec.{ltb}
 
 -- The highest set bit of a number: how often it can be halved before 1 is left.
@@ -30,6 +31,7 @@ unfoldable pub oneIfAny : ℕ → ℕ
 oneIfAny zero = 0
 oneIfAny (suc rest) = 1
 
+-- as a number, whatever the size: `roundedUp` below is what the rounding answers
 unfoldable pub up : ℕ → ℕ
 unfolding down grain oneIfAny
 up s = cond (ltb s 8) s (down s + oneIfAny (s % 2 ^ grain s))
@@ -45,3 +47,14 @@ classesInUse = 240
 -- The greatest size that has a class of its own or above it: the value of class 239.
 abbrev pub greatestServed : ℕ
 greatestServed = 4026531840
+
+-- Document 02: "Above 4,026,531,840 the rounded-up class is a number no region can have. Let that rounding answer "no class" instead of 240". What a
+-- size is rounded up to: a class, or none.
+unfoldable pub roundedUp : ℕ → Option ℕ
+unfolding up
+roundedUp s = cond (ltb greatestServed s) none (some (up s))
+
+-- a region's class reaches what a size is rounded up to: it is that class or a higher one; where there is no class, none reaches it
+abbrev pub Reaches : (class : ℕ) → Option ℕ → Type 0
+Reaches class none = ⊥
+Reaches class (some wanted) = wanted ≤ class

@@ -7,15 +7,12 @@ pub enum Smallest {
     TooLarge,
 }
 
-// The greatest object that some store serves: the value of class 239.
-pub const GREATEST_SERVED: u32 = 4026531840;
-
 // The size of the smallest store whose one fresh region serves an object of this size.
 pub fn min_allocator_size(needed_object_size: crate::Size) -> Smallest
     ensures { λ r. ⌜ SmallestStore («needed_object_size» .0) r ⌝ }
 {
-    if GREATEST_SERVED < needed_object_size.0 {
-        return Smallest::TooLarge;
+    match crate::uint_to_float_round_up(needed_object_size) {
+        crate::RoundedUp::To(class) => Smallest::Store(crate::size_of_class(class)),
+        crate::RoundedUp::NoClass => Smallest::TooLarge,
     }
-    Smallest::Store(crate::size_of_class(crate::uint_to_float_round_up(needed_object_size)))
 }

@@ -2,7 +2,8 @@
 // A class is a small float of a size: three bits of mantissa under an exponent, so that the classes of one exponent are evenly spaced.
 ghost use mathlib.Core.Path.{_≡_};
 ghost use Prim.Native.Nat.{_-_, _*_, _/_, _^_, _≤_, _<_, min};
-ghost use Rattle.small_float.specs.Class.{grain, down, up, value, classesInUse};
+ghost use Rattle.small_float.specs.Class.{grain, down, value, classesInUse, roundedUp};
+ghost use Rattle.small_float.specs.RoundedUp.{classIn};
 
 pub mod ext;
 
@@ -11,12 +12,21 @@ pub struct Size(pub u32);
 
 pub struct Class(pub u32);
 
+// What a size is rounded up to. The greatest sizes have no class: the regions of the next one would begin at 2^32, and no store is so long.
+pub enum RoundedUp {
+    To(Class),
+    NoClass,
+}
+
 pub const MANTISSA_BITS: u32 = 3;
 
 pub const MANTISSA_VALUE: u32 = 8;
 
 // The classes that a region can have: the value of each fits in 32 bits, and that of the next does not.
 pub const CLASSES_IN_USE: u32 = 240;
+
+// The greatest size that is rounded up to one of them: the value of class 239.
+pub const GREATEST_SERVED: u32 = 4026531840;
 
 // The classes whose value fits in 64 bits.
 pub const CLASSES_IN_64_BITS: u32 = 496;
@@ -29,15 +39,19 @@ fn grain_of(size: u32) -> u32
 }
 
 // The class of a size, rounded up: every size of this class or a higher one, rounded down, is at least as large.
-// No branch here and in the next: a size from 8 on holds 8 to 15 steps of 2^g, and a lower one, whose steps are single units, fewer.
-pub fn uint_to_float_round_up(size: Size) -> Class
-    ensures { λ r. ⌜ r .0 ≡ up (size .0) ⌝ }
+// The one branch asks whether there is a class. The sums, here and in the next, have none: a size from 8 on holds 8 to 15 steps of 2^g, and a lower one,
+// whose steps are single units, fewer.
+pub fn uint_to_float_round_up(size: Size) -> RoundedUp
+    ensures { λ r. ⌜ classIn r ≡ roundedUp (size .0) ⌝ }
 {
     let s = size.0;
+    if GREATEST_SERVED < s {
+        return RoundedUp::NoClass;
+    }
     let g = grain_of(s);
     // s / 2^g rounded up is (s - 1) / 2^g rounded down, and 1 more; signed, so that this holds of 0 too
     let steps = ((s as i64 - 1) >> g) + 1;
-    Class(MANTISSA_VALUE * g + steps as u32)
+    RoundedUp::To(Class(MANTISSA_VALUE * g + steps as u32))
 }
 
 // The class of a size, rounded down: where a free region of that size is kept.

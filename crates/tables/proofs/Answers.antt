@@ -2,7 +2,7 @@
 use mathlib.Core.Path.{refl}
 use Rattle.ledger.specs.Calls.{answers, end}
 use lib.Count.{leadingZeros, trailingZeros}
-use Rattle.small_float.specs.Class.{up, value}
+use Rattle.small_float.specs.Class.{roundedUp, value}
 use Rattle.tables.specs.Layout.{word, put, putLink}
 use Rattle.tables.specs.Steps.{insertNodes, joinNodes, insertAt, insert, unlinkAt, unlink, pushPile, popPile}
 use Rattle.tables.specs.Gate.{gate, setupGate}
@@ -11,7 +11,7 @@ use Rattle.tables.specs.Examples.{desk, reporting, withReports, RunOnWor
 use Rattle.tables.specs.Examples.{spoiled, Spoiled, PairsOnWords, spoiledBits, SpoiledBits, GateRows}
 
 pub nearly-right : NearlyRight
-unfolding answerWords answers desk up value word put putLink insert insertAt insertNodes joinNodes unlink unlinkAt pushPile popPile
+unfolding answerWords answers desk roundedUp value word put putLink insert insertAt insertNodes joinNodes unlink unlinkAt pushPile popPile
     leadingZeros trailingZeros
 nearly-right = record {
   next-top-bin = refl;
@@ -19,16 +19,17 @@ nearly-right = record {
   top-bit-cleared = refl;
   pile-top = refl;
   linked-back = refl;
+  spares-before-class = refl;
   grant-first = refl;
 }
 
 pub run-on-words : RunOnWords
-unfolding answerWords answers end desk reporting withReports up value word put putLink insert insertAt insertNodes joinNodes unlink unlinkAt
+unfolding answerWords answers end desk reporting withReports roundedUp value word put putLink insert insertAt insertNodes joinNodes unlink unlinkAt
     pushPile popPile leadingZeros trailingZeros
 run-on-words = record { the-run = refl; then-reset = refl }
 
 pub two-takes : TwoTakes
-unfolding answerWords end desk up word put putLink insert insertAt insertNodes joinNodes unlinkAt popPile trailingZeros
+unfolding answerWords end desk roundedUp word put putLink insert insertAt insertNodes joinNodes unlinkAt popPile trailingZeros
 two-takes = record {
   size-is = refl;
   count-is = refl;
@@ -42,7 +43,7 @@ two-takes = record {
 }
 
 pub spoiled-refused : Spoiled
-unfolding answerWords end spoiled desk up value word put insert insertAt insertNodes joinNodes putLink unlink unlinkAt pushPile popPile
+unfolding answerWords end spoiled desk roundedUp value word put insert insertAt insertNodes joinNodes putLink unlink unlinkAt pushPile popPile
     leadingZeros trailingZeros
 spoiled-refused = record {
   too-short = refl;
@@ -56,7 +57,7 @@ spoiled-refused = record {
 }
 
 pub pairs-on-words : PairsOnWords
-unfolding answerWords end desk up value word put insert insertAt insertNodes joinNodes putLink unlink unlinkAt pushPile popPile
+unfolding answerWords end desk roundedUp value word put insert insertAt insertNodes joinNodes putLink unlink unlinkAt pushPile popPile
     leadingZeros trailingZeros
 pairs-on-words = record {
   another's-offset = refl;
@@ -69,8 +70,8 @@ pairs-on-words = record {
 }
 
 pub spoiled-bits : SpoiledBits
-unfolding answerWords spoiledBits up value word put insert insertAt insertNodes joinNodes putLink popPile leadingZeros trailingZeros
-spoiled-bits = record { bare-top-bit = refl; bare-top-report = refl; no-top-bit = refl; class-239 = refl; class-240 = refl }
+unfolding answerWords spoiledBits roundedUp value word put insert insertAt insertNodes joinNodes putLink popPile leadingZeros trailingZeros
+spoiled-bits = record { bare-top-bit = refl; bare-top-report = refl; no-top-bit = refl; size-without-class = refl; class-239 = refl; class-240 = refl }
 
 pub gate-rows : GateRows
 unfolding gate setupGate

@@ -4,6 +4,7 @@ use mathlib.Core.Path.{_≡_, refl, sym, ap, _∙_}
 use mathlib.Core.Logic.{_⊎_, inl, inr}
 use mathlib.Core.List.{List, [], _∷_}
 use mathlib.Core.Bool.{Bool, true}
+use mathlib.Core.Option.{Option, none, some}
 use Prim.Native.Nat.{ℕ, _+_, _*_, _/_, _%_, _≤_, _<_, _^_}
 use native.Mathlib.Nat.{div-self}
 use native.Mathlib.Omega.{arith}
@@ -14,13 +15,14 @@ use lib.Pow.{pow-pos}
 use borrow.Author.Tests.{lt-ltb, eq-eqb, ne-eqb}
 use Rattle.basics.proofs.Clash.{clash}
 use Rattle.basics.proofs.Decided.{below, beyond, below?}
-use Rattle.small_float.specs.Class.{up}
+use Rattle.small_float.specs.Class.{up, greatestServed, roundedUp}
+use Rattle.small_float.proofs.Rounding.{rounded-to-class}
 use Rattle.ledger.specs.Ledger.{Answer, done, refused, setup, by-class}
 use Rattle.ledger.specs.Calls.{Request, Token, Question, SizeOf, Report, FullReport, Call, Take, HandBack, Reset, Ask, answer, end}
 use Rattle.ledger.proofs.SmallStores.{small-stores}
 use Rattle.tables.specs.Layout.{dataOffset, neighborPrev, neighborNext, used, word, nodesNeeded, pileNeeded}
 use Rattle.tables.specs.Words.{Words, withTotal, withLists}
-use Rattle.tables.specs.Search.{lowFrom, lowInBin, leafOrAbove, findClass}
+use Rattle.tables.specs.Search.{lowFrom, lowInBin, leafOrAbove, findClass, findFor}
 use Rattle.tables.specs.Search as found
 use Rattle.tables.specs.Take.{TakePlan, planRegion, planRecord, planClass, planTake, doTake}
 use Rattle.tables.specs.HandBack.{BackPlan, Merged, isLive, isFree, mergedOf, planMerged, planSides, planNeighbours, planBack, doBack}
@@ -103,11 +105,16 @@ nothing-held : (c : ℕ) → findClass [] 0 c ≡ found.no-class
 unfolding findClass leafOrAbove lowInBin
 nothing-held c = rw (low-past 0 (c % 8) (pow-pos (c % 8)), low-past 0 (c / 8 + 1) (pow-pos (c / 8 + 1))) refl
 
+nothing-for : (wanted : Option ℕ) → findFor [] 0 wanted ≡ found.no-class
+unfolding findFor
+nothing-for (some c) = nothing-held c
+nothing-for none = refl
+
 gives-4 : (asked : Request) → answerWords edition32 (Take asked) (two 1) .0 ≡ refused 4
 unfolding behind
 gives-4 asked =
     ap (λ (o : Answer × Words). o .0) (call-open edition32 (Take asked) (two 1) (room 1))
-    ∙ unfold planTake planClass doTake in rw (nothing-held (up (asked .size))) refl
+    ∙ unfold planTake planClass doTake in rw (nothing-for (roundedUp (asked .size))) refl
 
 gives-2 : (c : Call) → (w : Words) × (answerWords edition32 c w .0 ≡ refused 2)
 gives-2 c = (bare 2 0 [] [], ap (λ (o : Answer × Words). o .0) (call-2 edition32 c (bare 2 0 [] []) ((omega arith, omega arith), inl (omega arith))))
@@ -130,12 +137,12 @@ unfolding planClass planRecord planRegion word
 region-outside c s d =
     either (λ (p : TakePlan). p ≡ TakePlan.stop 6) (ltb d 256) (either (λ (p : TakePlan). p ≡ TakePlan.stop 6) (ltb 1 s) refl refl) refl
 
-take-6 : (asked : Request) → answerWords edition32 (Take asked) (no-units (up (asked .size))) .0 ≡ refused 6
+take-6 : (asked : Request) → asked .size ≤ greatestServed → answerWords edition32 (Take asked) (no-units (up (asked .size))) .0 ≡ refused 6
 unfolding behind doTake
-take-6 asked =
+take-6 asked h =
     let c = up (asked .size) in
     let stops : planTake (no-units c) (asked .size) ≡ TakePlan.stop 6
-    = unfold planTake in rw (bit-found c) (region-outside c (asked .size) (8 * (c / 8) + (c % 8 + 0))) in
+    = unfold planTake findFor in rw (rounded-to-class (asked .size) h, bit-found c) (region-outside c (asked .size) (8 * (c / 8) + (c % 8 + 0))) in
     ap (λ (o : Answer × Words). o .0) (call-open edition32 (Take asked) (no-units c) (room 1))
     ∙ ap (λ (p : TakePlan). doTake edition32 (no-units c) (asked .size) p .0) stops
 
@@ -200,11 +207,11 @@ told-behind q k in-store e =
     let x = told-given q k in-store e in
     (x .0, x .1, ap (λ (o : Answer × Words). o .0) (call-open edition32 (Ask q) (x .0) (x .1)) ∙ x .2)
 
-take-behind : (asked : Request) (k : ℕ) → OneOf (mayGiveBehind (Take asked)) k → GivenBehind (Take asked) k
-take-behind asked k (inl e) = renumber-behind (Take asked) e (two 0, room 0, take-3 edition32 (two 0) asked (room 0) .1 refl)
-take-behind asked k (inr (inl e)) = renumber-behind (Take asked) e (two 1, room 1, gives-4 asked)
-take-behind asked k (inr (inr (inl e))) = renumber-behind (Take asked) e (no-units (up (asked .size)), room 1, take-6 asked)
-take-behind asked k (inr (inr (inr e))) = absurd e
+take-behind : (asked : Request) (k : ℕ) → (k ≡ 6 → asked .size ≤ greatestServed) → OneOf (mayGiveBehind (Take asked)) k → GivenBehind (Take asked) k
+take-behind asked k served (inl e) = renumber-behind (Take asked) e (two 0, room 0, take-3 edition32 (two 0) asked (room 0) .1 refl)
+take-behind asked k served (inr (inl e)) = renumber-behind (Take asked) e (two 1, room 1, gives-4 asked)
+take-behind asked k served (inr (inr (inl e))) = renumber-behind (Take asked) e (no-units (up (asked .size)), room 1, take-6 asked (served e))
+take-behind asked k served (inr (inr (inr e))) = absurd e
 
 -- a record that is not live gives 5, whatever its number
 not-live-5 : (span : Token) → answerWords edition32 (HandBack span) (two 0) .0 ≡ refused 5
@@ -230,7 +237,10 @@ back-behind span k h (inr (inr (inl e))) =
 back-behind span k h (inr (inr (inr e))) = absurd e
 
 given-behind : (c : Call) (k : ℕ) → (k ≡ 8 → OfAStore c) → OneOf (mayGiveBehind c) k → (w : Words) × (answerWords edition32 c w .0 ≡ refused k)
-given-behind (Take asked) k in-store e = let x = take-behind asked k e in (x .0, x .2)
+given-behind (Take asked) k in-store (inl e) = renumber (Take asked) e (two 0, take-3 edition32 (two 0) asked (room 0) .1 refl)
+given-behind (Take asked) k in-store (inr (inl e)) = renumber (Take asked) e (two 1, gives-4 asked)
+given-behind (Take asked) k in-store (inr (inr (inl e))) = renumber (Take asked) e (gives-6 (Take asked))
+given-behind (Take asked) k in-store (inr (inr (inr e))) = absurd e
 given-behind (HandBack span) k in-store (inl e) = renumber (HandBack span) e (two 0, not-live-5 span)
 given-behind (HandBack span) k in-store (inr (inl e)) = let x = elsewhere-8 span (in-store e) in renumber (HandBack span) e (x .0, x .2)
 given-behind (HandBack span) k in-store (inr (inr (inl e))) = renumber (HandBack span) e (gives-6 (HandBack span))

@@ -9,11 +9,11 @@ use lib.ListN.{getD}
 use borrow.Author.Tests.{ltb-true}
 use Rattle.basics.specs.Sum.{one}
 use Rattle.basics.proofs.Decided.{Same, same, differ, same?, Below, below, beyond, below?}
-use Rattle.small_float.specs.Class.{up}
+use Rattle.small_float.specs.Class.{roundedUp}
 use Rattle.ledger.specs.Calls.{Token}
 use Rattle.tables.specs.Layout.{dataOffset, dataSize, neighborPrev, neighborNext, used, word}
 use Rattle.tables.specs.Words.{Words}
-use Rattle.tables.specs.Search.{Found, class-is, no-class, bad-bits, findClass}
+use Rattle.tables.specs.Search.{Found, class-is, no-class, bad-bits, findFor}
 use Rattle.tables.specs.Take.{TakePlan, planSpare, planRegion, planRecord, planClass, planTake}
 use Rattle.tables.specs.HandBack.{BackPlan, Merged, isLive, isFree, mergedOf, planMerged, planSides, planNeighbours, planBack}
 use Rattle.tables.specs.Guards.{GrantGuards, SplitGuards, TakeGuards, MergeGuards, BackGuards, GuardsMean}
@@ -71,7 +71,7 @@ take-guards w s = go (same? (w .freeOffset) 0)
   where
     go : Same (w .freeOffset) 0 → TakeGuards w s (planTake w s)
     go (same a e) = rw e tt
-    go (differ a e) = rw e (class-guards w s (omega arith) (findClass (w .usedBins) (w .usedBinsTop) (up s)))
+    go (differ a e) = rw e (class-guards w s (omega arith) (findFor (w .usedBins) (w .usedBinsTop) (roundedUp s)))
 
 -- ---- hand back
 -- a record that is live, or free, is below the count

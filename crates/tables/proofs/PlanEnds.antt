@@ -5,12 +5,12 @@ use Prim.Native.Nat.{ℕ, zero, suc, _+_, _-_}
 use lib.Dec.{ltb, eqb}
 use lib.ListN.{getD}
 use Rattle.basics.specs.Sum.{one}
-use Rattle.small_float.specs.Class.{up}
+use Rattle.small_float.specs.Class.{roundedUp}
 use Rattle.ledger.specs.Ledger.{Answer, refused}
 use Rattle.tables.specs.Layout.{dataOffset, dataSize, neighborPrev, neighborNext, word}
 use Rattle.tables.specs.Words.{Words}
 use Rattle.tables.specs.Gate.{gated}
-use Rattle.tables.specs.Search.{Found, class-is, no-class, bad-bits, findClass}
+use Rattle.tables.specs.Search.{Found, class-is, no-class, bad-bits, findFor}
 use Rattle.tables.specs.Take.{TakePlan, whole, split, planSpare, planRegion, planRecord, planClass, planTake}
 use Rattle.tables.specs.HandBack.{BackPlan, merge, Merged, isLive, isFree, mergedOf, planMerged, planSides, planNeighbours}
 
@@ -58,7 +58,7 @@ pub take-ends : (w : Words) (s : ℕ) (P : TakePlan → Type 0) → P (TakePlan.
     → ((c r o : ℕ) → P (whole c r o)) → ((c r o rest m : ℕ) → P (split c r o rest m)) → P (planTake w s)
 unfolding planTake
 take-ends w s P at-3 at-4 at-6 at-whole at-split =
-    either P (eqb (w .freeOffset) 0) at-3 (class-ends w s P at-4 at-6 at-whole at-split (findClass (w .usedBins) (w .usedBinsTop) (up s)))
+    either P (eqb (w .freeOffset) 0) at-3 (class-ends w s P at-4 at-6 at-whole at-split (findFor (w .usedBins) (w .usedBinsTop) (roundedUp s)))
 
 -- ---- hand back
 -- of a live record, it does not stop with 5

@@ -10,14 +10,15 @@ use lib.ListN.{length}
 use lib.Dec.{eqb}
 use Rattle.basics.proofs.Clash.{clash}
 use Rattle.basics.proofs.Decided.{Same, same, differ, same?, Below, below, beyond, below?}
-use Rattle.small_float.specs.Class.{up}
+use Rattle.small_float.specs.Class.{greatestServed, roundedUp}
+use Rattle.small_float.proofs.Rounding.{rounded-to-none}
 use Rattle.ledger.specs.Ledger.{Answer, done, refused}
 use Rattle.ledger.specs.Calls.{Request, Token, SizeOf, Call, Take, HandBack, Reset, Ask}
 use Rattle.tables.specs.Layout.{dataOffset, neighborPrev, neighborNext, used, word}
 use Rattle.tables.specs.Words.{Words, Edition}
 use Rattle.tables.specs.Gate.{gate, setupGate, gateOf}
 use Rattle.tables.specs.Setup.{Lent, fresh, zeros, setupWords}
-use Rattle.tables.specs.Search.{Found, findClass}
+use Rattle.tables.specs.Search.{Found, findFor}
 use Rattle.tables.specs.Take.{planClass, planTake, doTake}
 use Rattle.tables.specs.HandBack.{BackPlan, merge, Merged, isLive, planNeighbours, planBack, doBack}
 use Rattle.tables.specs.Questions.{lengthOf, toldBy}
@@ -258,7 +259,7 @@ spare-told : (E : Edition) (w : Words) (s : ℕ) → Same (w .freeOffset) 0 → 
 unfolding planTake
 spare-told E w s (same e t) a = e
 spare-told E w s (differ e t) a =
-    absurd (not-3 (given (4 ∷ 6 ∷ []) _ 3 (class-gives E w s (findClass (w .usedBins) (w .usedBinsTop) (up s))) (rw t at a)))
+    absurd (not-3 (given (4 ∷ 6 ∷ []) _ 3 (class-gives E w s (findFor (w .usedBins) (w .usedBinsTop) (roundedUp s))) (rw t at a)))
 
 spare-gives : (E : Edition) (w : Words) (s : ℕ) → Same (w .freeOffset) 0 → w .freeOffset ≡ 0 → doTake E w s (planTake w s) .0 ≡ refused 3
 unfolding planTake doTake
@@ -271,6 +272,15 @@ unfolding behind
 take-3 E w asked room =
     rw (call-open E (Take asked) w room)
     (spare-told E w (asked .size) (same? (w .freeOffset) 0), spare-gives E w (asked .size) (same? (w .freeOffset) 0))
+
+-- of a size without a class it is 3 or 4, whatever the bits say
+pub take-no-class : (E : Edition) (w : Words) (asked : Request) → greatestServed < asked .size → Room E (w .count) (length (w .nodes)) (length (w .pile))
+    → answerWords E (Take asked) w ≡ (refused (cond (eqb (w .freeOffset) 0) 3 4), w)
+unfolding behind planTake planClass doTake findFor
+take-no-class E w asked h room = call-open E (Take asked) w room ∙ rw (rounded-to-none (asked .size) h) (elim (same? (w .freeOffset) 0) [
+  | same e t ↦ rw t refl
+  | differ e t ↦ rw t refl
+])
 
 -- what a span names, by the words: no live record; a live one that starts elsewhere; or one that starts there
 data Named (w : Words) (span : Token) : Type 0 where

@@ -9,8 +9,8 @@ use lib.ListN.{getD, replicate}
 use lib.Count.{leadingZeros, trailingZeros}
 use Rattle.basics.proofs.Decided.{same, differ, same?}
 use Rattle.basics.proofs.Clash.{no-and-yes}
-use Rattle.small_float.specs.Class.{up}
-use Rattle.ledger.specs.Ledger.{onTop, without, lowest}
+use Rattle.small_float.specs.Class.{roundedUp}
+use Rattle.ledger.specs.Ledger.{onTop, without, lowestFrom}
 use Rattle.ledger.specs.Calls.{takes, answer, end}
 use Rattle.tables.specs.Layout.{word, put, putLink, nodesNeeded, pileNeeded}
 use Rattle.tables.specs.Steps.{insertNodes, joinNodes, insertAt, insert, unlinkAt, unlink, pushPile, popPile}
@@ -33,8 +33,8 @@ all-right = record {
 }
 
 pub one-wrong : OneWrong
-unfolding ofTwo end answer answerWords desk setupWords up word put putLink insert insertAt insertNodes joinNodes unlink unlinkAt pushPile popPile
-    mask nonZero leadingZeros trailingZeros onTop without lowest
+unfolding ofTwo end answer answerWords desk setupWords roundedUp word put putLink insert insertAt insertNodes joinNodes unlink unlinkAt pushPile popPile
+    mask nonZero leadingZeros trailingZeros onTop without lowestFrom
 one-wrong = record {
   nodes-short = λ s. absurd (omega (arith, s .room .tables .nodes-room));
   pile-short = λ s. absurd (omega (arith, s .room .tables .pile-room));

@@ -13,8 +13,8 @@ use Rattle.basics.specs.Sum.{is, tally}
 use Rattle.basics.proofs.Decided.{Same, same, differ, same?, below, beyond, below?}
 use Rattle.basics.proofs.Sums.{tally-reverseAux}
 use Rattle.basics.proofs.Counts.{is-own, one-below}
-use Rattle.small_float.specs.Class.{down, up, classesInUse}
-use Rattle.small_float.proofs.Rounding.{down-most}
+use Rattle.small_float.specs.Class.{down, up, classesInUse, roundedUp}
+use Rattle.small_float.proofs.Rounding.{down-most, to-class, to-none, rounded?}
 use Rattle.ledger.specs.Ledger.{Ledger, Region, live, free, len, freeLen, Answer, granted, refused, take, cut, by-class, Stacks}
 use Rattle.ledger.specs.WellFormed.{WellFormed, has}
 use Rattle.ledger.proofs.Places.{sum-at}
@@ -25,7 +25,7 @@ use Rattle.ledger.proofs.ByClass.{class-laws}
 use Rattle.tables.specs.Layout.{dataOffset, word}
 use Rattle.tables.specs.Words.{Words, Edition, bounds, withTotal}
 use Rattle.tables.specs.Steps.{insert, insertAt, unlinkAt, popPile}
-use Rattle.tables.specs.Search.{Found, class-is, no-class, findClass}
+use Rattle.tables.specs.Search.{Found, class-is, no-class, findClass, findFor}
 use Rattle.tables.specs.Take.{stop, whole, split, planSpare, planRegion, planRecord, planClass, planTake, granting, splitting, doTake}
 use Rattle.tables.specs.Linked.{first, Reads}
 use Rattle.tables.specs.Sound.{Sound}
@@ -39,11 +39,15 @@ use Rattle.tables.proofs.Grant.{whole-standing, split-standing}
 
 module _ (E : Edition) (w : Words) (l : Ledger Stacks) (S : Sound E w l) (s : ℕ) where
   abbrev found : Found
-  found = findClass (w .usedBins) (w .usedBinsTop) (up s)
+  found = findFor (w .usedBins) (w .usedBinsTop) (roundedUp s)
 
-  -- ---- the class that is found
-  none-found : ((c : ℕ) → up s ≤ c → c < classesInUse → l .index c ≡ []) → found ≡ no-class
-  none-found empty = elim (search-finds E w l S (up s)) [
+  -- ---- the class that is found; a size without one is more than any class in use reaches
+  from-class : (c : ℕ) → up s ≤ c → c < classesInUse → found ≡ findClass (w .usedBins) (w .usedBinsTop) (up s)
+  unfolding findFor
+  from-class c h k = elim (rounded? s) [ to-class low in-use e ↦ rw e | to-none high past e ↦ absurd (omega arith) ]
+
+  none-from : ((c : ℕ) → up s ≤ c → c < classesInUse → l .index c ≡ []) → findClass (w .usedBins) (w .usedBinsTop) (up s) ≡ no-class
+  none-from empty = elim (search-finds E w l S (up s)) [
     | inl n ↦ n .0
     | inr f ↦ absurd (f .2 .0 .1 (elim (below? (f .0) classesInUse) [
       | below h e ↦ empty (f .0) (f .2 .0 .0) h
@@ -51,9 +55,16 @@ module _ (E : Edition) (w : Words) (l : Ledger Stacks) (S : Sound E w l) (s : �
     ]))
   ]
 
-  class-found : (c r : ℕ) (under : List ℕ) → up s ≤ c → l .index c ≡ r ∷ under
+  none-found : ((c : ℕ) → up s ≤ c → c < classesInUse → l .index c ≡ []) → found ≡ no-class
+  unfolding findFor
+  none-found empty = elim (rounded? s) [
+    | to-class low in-use e ↦ rw e (none-from empty)
+    | to-none high past e ↦ rw e
+  ]
+
+  class-found : (c r : ℕ) (under : List ℕ) → up s ≤ c → c < classesInUse → l .index c ≡ r ∷ under
       → ((d : ℕ) → up s ≤ d → d < c → l .index d ≡ []) → found ≡ class-is c
-  class-found c r under h top lower = elim (search-finds E w l S (up s)) [
+  class-found c r under h in-use top lower = from-class c h in-use ∙ elim (search-finds E w l S (up s)) [
     | inl n ↦ absurd (holds (n .1 c h))
     | inr f ↦ elim (below? (f .0) c) [
       | below g e ↦ absurd (f .2 .0 .1 (lower (f .0) (f .2 .0 .0) g))
@@ -134,7 +145,7 @@ module _ (E : Edition) (w : Words) (l : Ledger Stacks) (S : Sound E w l) (s : �
     unfolding planTake planClass planRecord planRegion planSpare
     plan-is = rw (
       ne-eqb (w .freeOffset) 0 (omega (arith, S .spare .spares, t .two-spare)),
-      class-found (down n) r (t .under) (t .reaching) (t .on-top) (t .none-lower),
+      class-found (down n) r (t .under) (t .reaching) (t .in-use) (t .on-top) (t .none-lower),
       lt-ltb (down n) 256 (omega (arith, t .in-use)),
       head-is,
       lt-ltb r (w .count) r-below,

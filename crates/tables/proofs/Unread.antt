@@ -9,14 +9,14 @@ use lib.Dec.{ltb, eqb}
 use lib.ListN.{length, getD}
 use Rattle.basics.specs.Sum.{one}
 use Rattle.basics.proofs.Decided.{below, beyond, below?}
-use Rattle.small_float.specs.Class.{up}
+use Rattle.small_float.specs.Class.{roundedUp}
 use Rattle.ledger.specs.Ledger.{Answer}
 use Rattle.ledger.specs.Calls.{Token, Call, Take, HandBack, Reset, Ask}
 use Rattle.tables.specs.Layout.{dataOffset, dataSize, binNext, neighborPrev, neighborNext, used, word, nodesNeeded, pileNeeded}
 use Rattle.tables.specs.Words.{Words, Edition, Bounds, bounds, withTables}
 use Rattle.tables.specs.Steps.{popPile}
 use Rattle.tables.specs.Setup.{Lent, blank, fresh, setupWords}
-use Rattle.tables.specs.Search.{Found, class-is, no-class, bad-bits, findClass}
+use Rattle.tables.specs.Search.{Found, class-is, no-class, bad-bits, findFor}
 use Rattle.tables.specs.Take.{TakePlan, whole, split, planSpare, planRegion, planRecord, planClass, planTake, granting, splitting, doTake}
 use Rattle.tables.specs.HandBack.{BackPlan, merge, isLive, isFree, mergedOf, planMerged, planSides, planNeighbours, planBack, merging, doBack}
 use Rattle.tables.specs.Calls.{behind, answerWords}
@@ -73,7 +73,7 @@ module _ (w : Words) (nodes pile : List ℕ) (N : AgreeOn (nodesNeeded (w .count
   take-same : (s : ℕ) → planTake w s ≡ planTake v s
   unfolding planTake
   take-same s =
-      ap (λ (p : TakePlan). cond (eqb (w .freeOffset) 0) (TakePlan.stop 3) p) (class-same s (findClass (w .usedBins) (w .usedBinsTop) (up s)))
+      ap (λ (p : TakePlan). cond (eqb (w .freeOffset) 0) (TakePlan.stop 3) p) (class-same s (findFor (w .usedBins) (w .usedBinsTop) (roundedUp s)))
 
   -- ---- take: the commit
   agree : Agree (w .count) w v

@@ -2,10 +2,13 @@
 -- edition. Assumes nothing.
 use mathlib.Core.Path.{_≡_}
 use mathlib.Core.Logic.{_↔_, _⊎_, _≢_}
+use mathlib.Core.Bool.{cond}
 use mathlib.Core.List.{List, [], _∷_}
 use Prim.Native.Nat.{ℕ, zero, suc, _+_, _*_, _-_, _≤_, _<_}
+use lib.Dec.{eqb}
 use lib.ListN.{length, getD}
 use Rattle.basics.specs.Extreme.{Greatest, Least}
+use Rattle.small_float.specs.Class.{greatestServed}
 use Rattle.ledger.specs.Ledger.{Ledger, granted, done, refused, setup, by-class, Stacks}
 use Rattle.ledger.specs.Calls.{Request, Token, SizeOf, FullReport, Call, Take, HandBack, Reset, Ask, answer, end, answers, log}
 use Rattle.ledger.specs.Stretch.{Stretch}
@@ -108,6 +111,9 @@ pub record Claims (E : Edition) : Type 0 where
   -- and the offset word is another number than the span's
   pub take-3 : (w : Words) (asked : Request) → Room E (w .count) (length (w .nodes)) (length (w .pile))
       → (answerWords E (Take asked) w .0 ≡ refused 3) ↔ (w .freeOffset ≡ 0)
+  -- document 02: "take (still refusal 4, after 3)", of a size without a class: whatever the bits say
+  pub take-no-class : (w : Words) (asked : Request) → greatestServed < asked .size → Room E (w .count) (length (w .nodes)) (length (w .pile))
+      → answerWords E (Take asked) w ≡ (refused (cond (eqb (w .freeOffset) 0) 3 4), w)
   pub back-5 : (w : Words) (span : Token) → Room E (w .count) (length (w .nodes)) (length (w .pile))
       → (answerWords E (HandBack span) w .0 ≡ refused 5) ↔ NotLive w (span .number)
   pub size-5 : (w : Words) (span : Token) → Room E (w .count) (length (w .nodes)) (length (w .pile))

@@ -6,6 +6,7 @@ use Prim.Native.Nat.{ℕ, _^_, _≤_, _<_}
 use mathlib.Core.List.{List, [], _∷_, map}
 use lib.ListN.{length, set, replicate}
 use Rattle.ledger.specs.Ledger.{Answer, granted, done, length-is, reported, refused}
+use Rattle.small_float.specs.Class.{greatestServed}
 use Rattle.ledger.specs.Calls.{Request, Token, Question, SizeOf, Report, FullReport, Call, Take, HandBack, Reset, Ask}
 use Rattle.ledger.specs.Calls.{takes, hands-back, asks-size, answers, end}
 use Rattle.ledger.specs.RunToFollow.{the-calls, the-answers}
@@ -83,6 +84,9 @@ pub record NearlyRight : Type 0 where
       (desk 100 8)
       ≡ granted 0 0 ∷ granted 10 1 ∷ granted 20 2 ∷ granted 30 3 ∷ granted 40 4 ∷ granted 50 5
       ∷ done ∷ done ∷ done ∷ done ∷ granted 40 4 ∷ []
+  -- a size without a class refused before spares are asked for: with one spare record the answer is 3
+  pub spares-before-class : answers (answerWords edition32) (takes 4294967295 ∷ takes 20 ∷ takes 4294967295 ∷ []) (desk 100 3)
+      ≡ refused 4 ∷ granted 0 0 ∷ refused 3 ∷ []
   -- the remainder linked before the grant: both are of class 36, and the class must keep the remainder
   pub grant-first : answers (answerWords edition32) (takes 1 ∷ Ask Report ∷ []) (desk 100 4) ≡ granted 0 0 ∷ reported 99 96 ∷ []
 
@@ -133,6 +137,8 @@ pub record SpoiledBits : Type 0 where
   pub bare-top-report : answerWords edition32 (Ask Report) (spoiledBits 16 (replicate 32 0)) .0 ≡ refused 6
   -- where no top bit is set, the report has the kept total, and 0
   pub no-top-bit : answerWords edition32 (Ask Report) (spoiledBits 0 (replicate 32 0)) .0 ≡ reported 100 0
+  -- where a size has no class the bits are not looked at
+  pub size-without-class : answerWords edition32 (takes 4294967295) (spoiledBits 1073741824 (set (replicate 32 0) 30 1)) .0 ≡ refused 4
   -- of the classes 239 is the last that a report names; 240 is none in use
   pub class-239 : answerWords edition32 (Ask Report) (spoiledBits 536870912 (set (replicate 32 0) 29 128)) .0 ≡ reported 100 4026531840
   pub class-240 : answerWords edition32 (Ask Report) (spoiledBits 1073741824 (set (replicate 32 0) 30 1)) .0 ≡ refused 6
@@ -221,9 +227,10 @@ pub record AllGiven : Type 0 where
   -- and behind an open gate no number is named that is not meant: a reset is never refused there, a size query with 5 and 8 alone
   pub reset-never : (k : ℕ) → ¬ OneOf (mayGiveBehind Reset) k
   pub size-query-5-8 : (span : Token) (k : ℕ) → OneOf (mayGiveBehind (Ask (SizeOf span))) k ↔ ((k ≡ 5) ⊎ (k ≡ 8))
-  -- and every number that is named there is given there, the 6 of a take, of a hand-back and of both reports among them: for a take of any size, for
-  -- any record that a store can have, and for every question
-  pub take-behind : (asked : Request) (k : ℕ) → OneOf (mayGiveBehind (Take asked)) k → GivenBehind (Take asked) k
+  -- and every number that is named there is given there, the 6 of a take, of a hand-back and of both reports among them: for a take of any size, 6 if it
+  -- has a class, for any record that a store can have, and for every question
+  pub take-behind : (asked : Request) (k : ℕ) → (k ≡ 6 → asked .size ≤ greatestServed) → OneOf (mayGiveBehind (Take asked)) k
+      → GivenBehind (Take asked) k
   pub back-behind : (span : Token) (k : ℕ) → span .number < edition32 .limit → OneOf (mayGiveBehind (HandBack span)) k → GivenBehind (HandBack span) k
   pub told-behind : (q : Question) (k : ℕ) → (k ≡ 8 → AsksOfAStore q) → OneOf (mayGiveBehind (Ask q)) k → GivenBehind (Ask q) k
   -- a number given behind an open gate is given by words for which there is room, no less

@@ -1,6 +1,7 @@
 -- The search for a class, by the two levels of bits: the top word, and the leaf bytes. Assumes nothing.
 use mathlib.Core.Bool.{cond}
 use mathlib.Core.List.{List}
+use mathlib.Core.Option.{Option, none, some}
 use Prim.Native.Nat.{ℕ, _+_, _*_, _-_, _/_, _%_, _^_}
 use lib.Dec.{ltb, eqb}
 use lib.ListN.{getD}
@@ -34,6 +35,12 @@ leafOrAbove leaves top t l = cond (ltb l 8) (class-is (8 * t + l)) (lowInBin lea
 unfoldable pub findClass : (leaves : List ℕ) → (top c : ℕ) → Found
 unfolding leafOrAbove lowFrom
 findClass leaves top c = leafOrAbove leaves top (c / 8) (lowFrom (getD leaves (c / 8) 0) (c % 8))
+
+-- the lowest from the class on that a size is rounded up to; where it has none, there is none
+unfoldable pub findFor : (leaves : List ℕ) → (top : ℕ) → Option ℕ → Found
+unfolding findClass
+findFor leaves top (some c) = findClass leaves top c
+findFor leaves top none = no-class
 
 -- the highest set bit of a 32-bit word that is not 0
 unfoldable pub highBit : ℕ → ℕ

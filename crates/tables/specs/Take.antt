@@ -3,12 +3,12 @@ use mathlib.Core.Bool.{cond}
 use Prim.Native.Nat.{ℕ, _+_, _-_}
 use lib.Dec.{ltb, eqb}
 use lib.ListN.{getD}
-use Rattle.small_float.specs.Class.{up}
+use Rattle.small_float.specs.Class.{roundedUp}
 use Rattle.ledger.specs.Ledger.{Answer, granted, refused}
 use Rattle.tables.specs.Layout.{dataOffset, dataSize, binNext, neighborNext, used, word, put}
 use Rattle.tables.specs.Words.{Words, Edition, Bounds, bounds, withNodes, withTotal}
 use Rattle.tables.specs.Steps.{insert, unlinkAt, popPile}
-use Rattle.tables.specs.Search.{Found, class-is, no-class, bad-bits, findClass}
+use Rattle.tables.specs.Search.{Found, class-is, no-class, bad-bits, findFor}
 
 -- a refusal; or the class and record of a region, its offset, and that its length is just right;
 -- or these with the length of the remainder and the spare record that it takes
@@ -47,8 +47,8 @@ planClass w s bad-bits = stop 6
 
 -- more than one record is spare
 unfoldable pub planTake : Words → ℕ → TakePlan
-unfolding planClass findClass
-planTake w s = cond (eqb (w .freeOffset) 0) (stop 3) (planClass w s (findClass (w .usedBins) (w .usedBinsTop) (up s)))
+unfolding planClass findFor
+planTake w s = cond (eqb (w .freeOffset) 0) (stop 3) (planClass w s (findFor (w .usedBins) (w .usedBinsTop) (roundedUp s)))
 
 -- ---- the commit
 -- the top of class c leaves its list and becomes live with length s

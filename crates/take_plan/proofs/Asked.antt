@@ -6,10 +6,10 @@ use native.Mathlib.Omega.{arith}
 use lib.Dec.{eqb}
 use lib.ListN.{getD}
 use borrow.Author.Tests.{lt-ltb, eq-eqb, ne-eqb}
-use Rattle.small_float.specs.Class.{up}
+use Rattle.small_float.specs.Class.{roundedUp}
 use Rattle.small_float.specs.declared.Class.{Class}
 use Rattle.tables.specs.Words.{Words}
-use Rattle.tables.specs.Search.{Found, class-is, no-class, bad-bits, findClass}
+use Rattle.tables.specs.Search.{Found, class-is, no-class, bad-bits, findFor}
 use Rattle.tables.specs.Take.{stop, planRecord, planClass, planTake}
 use Rattle.answers.specs.declared.Refusal.{Refusal}
 use Rattle.answers.specs.declared.Refusal.the-variants.{NoSpareRecord, NoRegion, Unsound}
@@ -41,19 +41,17 @@ class-low f spares found sought {c} told seeks e =
     let h = subst (λ (x : Sought). Seeks spares found x) e seeks in
     class-told f c (subst (λ (x : Search). Tells f x) (h .1) told) .1
 
--- a search told as `found`, from the class wanted on, and what comes of it
-module _ (w : Words) (s : ℕ) (found : Search) (sought : Sought) {d : ℕ} (wanted : d ≡ up s)
-    (told : Tells (findClass (w .usedBins) (w .usedBinsTop) d) found) (seeks : Seeks (w .freeOffset) found sought) where
-  told-as : {other : Search} → found ≡ other → Tells (findClass (w .usedBins) (w .usedBinsTop) (up s)) other
-  told-as e =
-      subst (λ (x : Search). Tells (findClass (w .usedBins) (w .usedBinsTop) (up s)) x) e
-      (subst (λ (x : ℕ). Tells (findClass (w .usedBins) (w .usedBinsTop) x) found) wanted told)
+-- a search told as `found`, and what comes of it
+module _ (w : Words) (s : ℕ) (found : Search) (sought : Sought)
+    (told : Tells (findFor (w .usedBins) (w .usedBinsTop) (roundedUp s)) found) (seeks : Seeks (w .freeOffset) found sought) where
+  told-as : {other : Search} → found ≡ other → Tells (findFor (w .usedBins) (w .usedBinsTop) (roundedUp s)) other
+  told-as e = subst (λ (x : Search). Tells (findFor (w .usedBins) (w .usedBinsTop) (roundedUp s)) x) e told
 
   by-number : (why : Refusal) → Seeks (w .freeOffset) found (Stop why) → stop (numberOf why) ≡ planTake w s
   unfolding planTake planClass
   by-number NoSpareRecord h = rw (eq-eqb _ _ h)
-  by-number NoRegion h = rw (some _ (h .0), none-told (findClass (w .usedBins) (w .usedBinsTop) (up s)) (told-as (h .1)))
-  by-number Unsound h = rw (some _ (h .0), bits-told (findClass (w .usedBins) (w .usedBinsTop) (up s)) (told-as (h .1)))
+  by-number NoRegion h = rw (some _ (h .0), none-told (findFor (w .usedBins) (w .usedBinsTop) (roundedUp s)) (told-as (h .1)))
+  by-number Unsound h = rw (some _ (h .0), bits-told (findFor (w .usedBins) (w .usedBinsTop) (roundedUp s)) (told-as (h .1)))
 
   pub stopped-plan : {why : Refusal} → sought ≡ Stop why → stop (numberOf why) ≡ planTake w s
   stopped-plan {why} e = by-number why (subst (λ (x : Sought). Seeks (w .freeOffset) found x) e seeks)
@@ -62,7 +60,7 @@ module _ (w : Words) (s : ℕ) (found : Search) (sought : Sought) {d : ℕ} (wan
   unfolding planTake planClass
   record-plan {c} e =
       let h = subst (λ (x : Sought). Seeks (w .freeOffset) found x) e seeks in
-      let its = class-told (findClass (w .usedBins) (w .usedBinsTop) (up s)) c (told-as (h .1)) in
+      let its = class-told (findFor (w .usedBins) (w .usedBinsTop) (roundedUp s)) c (told-as (h .1)) in
       rw (some _ (h .0), its .0, lt-ltb _ _ (its .1))
 
 -- ---- one outcome

@@ -5,8 +5,10 @@ ghost use mathlib.Core.Path.{_≡_};
 ghost use Prim.Native.Nat.{_≤_, _<_};
 ghost use mathlib.Core.List.{[]};
 ghost use lib.ListN.{length as length-of, getD};
-ghost use Rattle.small_float.specs.Class.{up};
+ghost use Rattle.small_float.specs.Class.{roundedUp};
+ghost use Rattle.tables.specs.Search.{findFor};
 ghost use Rattle.tables.specs.Take.{planSpare, planRegion, planRecord, planTake};
+ghost use Rattle.bitmap.specs.InBits.{Tells};
 ghost use Rattle.records.specs.InWords.{wordsOf, HasRoom};
 ghost use Rattle.take_plan.specs.Plan.{planOf, Seeks};
 use answers::Handle;
@@ -16,6 +18,7 @@ use bitmap::search::Found;
 use records::nodes;
 use records::totals::Totals;
 use small_float::Class;
+use small_float::RoundedUp;
 use small_float::Size;
 
 // The region that a take is given: its class, its record, and where it lies.
@@ -134,11 +137,15 @@ fn seek(spares: u32, found: Found) -> Sought
     }
 }
 
-// The class from which the search goes upward: every region from there on is long enough.
-fn class_wanted(size: u32) -> Class
-    ensures { λ c. ⌜ (c .0 ≡ up size) × (c .0 < 248) ⌝ }
+// The search goes upward from the class that the size is rounded up to: every region from there on is long enough. Without a class there is nothing to
+// search.
+fn find_for(size: Size, used_bins: &[u8; 32], used_bins_top: u32) -> Found
+    ensures { λ r. ⌜ Tells (findFor (now («used_bins» .entry)) «used_bins_top» (roundedUp (size .0))) r ⌝ }
 {
-    small_float::uint_to_float_round_up(Size(size))
+    match small_float::uint_to_float_round_up(size) {
+        RoundedUp::To(c) => search::find_class(used_bins, used_bins_top, c),
+        RoundedUp::NoClass => Found::NoClass,
+    }
 }
 
 // What a take of this size finds.
@@ -155,8 +162,7 @@ pub fn plan(
     ensures { λ g. ⌜ planOf g
         ≡ planTake (wordsOf t (now («bin_indices» .entry)) (now («used_bins» .entry)) (now (nodes .entry)) (now («free_nodes» .entry))) (size .0) ⌝ }
 {
-    let wanted = class_wanted(size.0);
-    let found = search::find_class(used_bins, t.used_bins_top, wanted);
+    let found = find_for(size, used_bins, t.used_bins_top);
     match seek(t.free_offset, found) {
         Sought::Stop(why) => Planned::Stop(why),
         Sought::In(c) => {

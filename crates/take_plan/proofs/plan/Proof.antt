@@ -1,16 +1,13 @@
 -- What stops a take, or the record at the top of the class found: that is `planTake`. Assumes nothing.
-use Rattle.tables.specs.Search.{findClass}
+use Rattle.tables.specs.Search.{findFor}
 use Rattle.tables.specs.Take.{planSpare, planRegion, planRecord}
 use Rattle.take_plan.proofs.Asked.{class-low, stopped-plan, record-plan}
 use borrow.Author.Needs.{needs}
 use Rattle.take_plan.proofs.plan.Statement.{statement}
 use Rattle.take_plan.proofs.plan.Tie as tie
 
-class-wanted-requires : tie.Need-class-wanted-requires
-class-wanted-requires c κs = search needs
-
-find-class-requires : tie.Need-find-class-requires
-find-class-requires c κs = c .class-wanted .ensures .1
+find-for-requires : tie.Need-find-for-requires
+find-for-requires c κs = search needs
 
 seek-requires : tie.Need-seek-requires
 seek-requires c κs = search needs
@@ -31,9 +28,9 @@ element-copy-out-top : tie.Need-element-copy-out-top
 element-copy-out-top c =
     let told = c .before .before in
     let sought = told .before .before in
-    let start = sought .before .before .before .before .before in
-    let found = sought .before .find-class in
-    class-low (findClass _ _ _) (start .args .t .«free_offset») (found .result) (sought .seek .result) (found .ensures) (sought .seek .ensures)
+    let start = sought .before .before .before .before in
+    let found = sought .before .find-for in
+    class-low (findFor _ _ _) (start .args .t .«free_offset») (found .result) (sought .seek .result) (found .ensures) (sought .seek .ensures)
     (told .c .given .1)
 
 plan-record-requires : tie.Need-plan-record-requires
@@ -43,8 +40,8 @@ returns : tie.Need-returns
 returns c =
     let told = c .before in
     let sought = told .before .before in
-    let found = sought .before .find-class in
-    stopped-plan _ _ (found .result) (sought .seek .result) (sought .before .before .class-wanted .ensures .0) (found .ensures)
+    let found = sought .before .find-for in
+    stopped-plan _ _ (found .result) (sought .seek .result) (found .ensures)
     (sought .seek .ensures) (told .why .given .1)
 
 returns-2 : tie.Need-returns-2
@@ -52,17 +49,16 @@ unfolding planRecord planRegion planSpare
 returns-2 c =
     let told = c .before .before .before .before in
     let sought = told .before .before in
-    let found = sought .before .find-class in
+    let found = sought .before .find-for in
     rw (c .plan-record .ensures)
-    (record-plan _ _ (found .result) (sought .seek .result) (sought .before .before .class-wanted .ensures .0) (found .ensures)
+    (record-plan _ _ (found .result) (sought .seek .result) (found .ensures)
     (sought .seek .ensures) (told .c .given .1))
 
 pub plan-spec : {M : Type 1} → statement M
 plan-spec =
     tie.close
     (tie.spec
-    class-wanted-requires
-    find-class-requires
+    find-for-requires
     seek-requires
     enum-known-why
     enum-known-c

@@ -1,7 +1,7 @@
--- By the two tests, on the classes that the port gives. Assumes nothing.
+-- By the class rounded down, and the two verdicts on the rest. Assumes nothing.
 use borrow.Author.Tests.{eq-eqb, ne-eqb}
 use borrow.Author.Needs.{needs}
-use Rattle.oracle_lists.specs.Verdicts.{sizeVerdict}
+use Rattle.oracle_lists.specs.Verdicts.{upVerdict, servedVerdict, together, sizeVerdict}
 use Rattle.oracle_lists.proofs.classes.judge_size.Statement.{statement}
 use Rattle.oracle_lists.proofs.classes.judge_size.Tie as tie
 
@@ -14,29 +14,23 @@ returns c =
     let port = c .before .before in
     rw (← (port .uint-to-float-round-down .ensures), ne-eqb _ (port .before .args .down) (c .if1 .taken))
 
-uint-to-float-round-up-requires : tie.Need-uint-to-float-round-up-requires
-uint-to-float-round-up-requires c κs = search needs
-
-returns-2 : tie.Need-returns-2
-unfolding sizeVerdict
-returns-2 c =
-    let port = c .before .before in
-    let down = port .before .before .before in
-    let same-down = eq-eqb _ (down .before .args .down) (port .before .if1 .left) in
-    let other-up = ne-eqb _ (down .before .args .up) (c .if2 .taken) in
-    rw (← (down .uint-to-float-round-down .ensures), same-down, ← (port .uint-to-float-round-up .ensures), other-up)
+judge-up-requires : tie.Need-judge-up-requires
+judge-up-requires c κs = search needs
 
 judge-smallest-requires : tie.Need-judge-smallest-requires
 judge-smallest-requires c κs = search needs
 
-returns-3 : tie.Need-returns-3
+both-requires : tie.Need-both-requires
+both-requires c κs = search needs
+
+returns-2 : tie.Need-returns-2
 unfolding sizeVerdict
-returns-3 c =
-    let port = c .before .before .before in
-    let down = port .before .before .before in
-    let same-down = eq-eqb _ (down .before .args .down) (port .before .if1 .left) in
-    let same-up = eq-eqb _ (down .before .args .up) (c .before .if2 .left) in
-    rw (← (down .uint-to-float-round-down .ensures), same-down, ← (port .uint-to-float-round-up .ensures), same-up) (c .judge-smallest .ensures)
+returns-2 c =
+    let smallest = c .before in
+    let up = smallest .before in
+    let port = up .before .before .before in
+    let same-down = eq-eqb _ (port .before .args .down) (up .before .if1 .left) in
+    rw (← (port .uint-to-float-round-down .ensures), same-down, ← (up .judge-up .ensures), ← (smallest .judge-smallest .ensures)) (c .both .ensures)
 
 pub judge-size-spec : {M : Type 1} → statement M
 judge-size-spec =
@@ -44,7 +38,7 @@ judge-size-spec =
     (tie.spec
     uint-to-float-round-down-requires
     returns
-    uint-to-float-round-up-requires
-    returns-2
+    judge-up-requires
     judge-smallest-requires
-    returns-3)
+    both-requires
+    returns-2)

@@ -1,39 +1,39 @@
--- The port's answer says on which side of 4,026,531,840 the size lies. Assumes nothing.
+-- The port's answer says whether the size has a class. Assumes nothing.
 use Prim.Native.Nat.{ℕ}
 use mathlib.Core.Path.{_≡_, subst}
 use mathlib.Core.Bool.{cond}
 use native.Mathlib.Omega.{arith}
 use lib.Dec.{eqb}
-use borrow.Author.Tests.{eq-eqb, ne-eqb}
+use borrow.Author.Tests.{lt-ltb, le-ltb, eq-eqb, ne-eqb}
 use borrow.Author.Needs.{needs}
-use Rattle.basics.proofs.Decided.{below?, below, beyond}
 use Rattle.small_float.specs.declared.Size.{Size}
 use Rattle.small_float.specs.declared.ext.Smallest.{Smallest}
 use Rattle.small_float.specs.declared.ext.Smallest.the-variants.{Store, TooLarge}
-use Rattle.small_float.specs.Class.{greatestServed}
+use Rattle.small_float.specs.Class.{greatestServed, roundedUp}
 use Rattle.small_float.specs.Smallest.{SmallestStore}
+use Rattle.small_float.proofs.Rounding.{to-class, to-none, rounded?}
 use Rattle.oracle_lists.specs.declared.tally.Verdict.the-variants.{Agrees, Listed, Differs}
 use Rattle.oracle_lists.specs.Verdicts.{servedVerdict}
 use Rattle.oracle_lists.proofs.classes.judge_smallest.Statement.{statement}
 use Rattle.oracle_lists.proofs.classes.judge_smallest.Tie as tie
 
 module _ (size smallest : ℕ) {answer : Smallest} (right : SmallestStore size answer) where
-  served : (store : Size) → answer ≡ Store store → servedVerdict size smallest ≡ cond (eqb (store .0) smallest) Agrees Differs
+  served : (store : Size) → answer ≡ Store store → servedVerdict (roundedUp size) smallest ≡ cond (eqb (store .0) smallest) Agrees Differs
   unfolding servedVerdict
   served store is =
       let shown : SmallestStore size (Store store) = subst (λ (a : Smallest). SmallestStore size a) is right in
-      elim (below? greatestServed size) [
-        | below h e ↦ let never : _≡_ {A = ℕ} 0 7 = rw e at (shown .number) in absurd (omega arith)
-        | beyond h e ↦ let same = rw e at (shown .figure) in rw (e, same)
+      elim (rounded? size) [
+        | to-class low in-use e ↦ let same = rw e at (shown .figure) in rw (e, same)
+        | to-none high past e ↦ let never : _≡_ {A = ℕ} 0 7 = rw (lt-ltb greatestServed size high) at (shown .number) in absurd (omega arith)
       ]
 
-  refused : answer ≡ TooLarge → servedVerdict size smallest ≡ cond (eqb smallest 0) Listed Differs
+  refused : answer ≡ TooLarge → servedVerdict (roundedUp size) smallest ≡ cond (eqb smallest 0) Listed Differs
   unfolding servedVerdict
   refused is =
       let shown : SmallestStore size TooLarge = subst (λ (a : Smallest). SmallestStore size a) is right in
-      elim (below? greatestServed size) [
-        | below h e ↦ rw e
-        | beyond h e ↦ let never : _≡_ {A = ℕ} 7 0 = rw e at (shown .number) in absurd (omega arith)
+      elim (rounded? size) [
+        | to-class low in-use e ↦ let never : _≡_ {A = ℕ} 7 0 = rw (le-ltb greatestServed size low) at (shown .number) in absurd (omega arith)
+        | to-none high past e ↦ rw e
       ]
 
 min-allocator-size-requires : tie.Need-min-allocator-size-requires
