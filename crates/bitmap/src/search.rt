@@ -8,6 +8,7 @@ use small_float::Class;
 
 pub enum Found {
     Lowest(Class),
+    // no class from there on holds anything
     NoClass,
     // the bits contradict each other: a top bit is set over a leaf byte of 0
     BadBits,

@@ -22,7 +22,7 @@ use Rattle.ledger.proofs.ClassGrants.{class-grant}
 use Rattle.ledger.proofs.ClassReturns.{class-return}
 use Rattle.ledger.proofs.FullReport.{full-report, last-sixteen}
 use Rattle.ledger.proofs.Fresh.{fresh-grants}
-use Rattle.ledger.proofs.Largest.{no-class, none-reaches-by-class, largest-is, largest-none}
+use Rattle.ledger.proofs.Largest.{take-no-class, none-reaches-by-class, largest-is, largest-none}
 use Rattle.ledger.proofs.ByClass.{class-laws}
 
 pub engine-claims : (E : Engine) → Laws E → (size count : ℕ) → size < 2 ^ 32 → 2 ≤ count → EngineClaims E size count
@@ -84,7 +84,7 @@ class-claims size count small = record {
   stack-holds = stack-holds size count;
   stack-distinct = stack-distinct size count;
   none-reaches-by-class = none-reaches-by-class size count small;
-  no-class = no-class;
+  take-no-class = take-no-class;
   largest-is = largest-is size count small;
   largest-none = largest-none;
   fresh-grants = fresh-grants size count small;

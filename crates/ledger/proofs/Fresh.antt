@@ -36,7 +36,7 @@ module _ (size count : ℕ) (small : size < 2 ^ 32) (three : 3 ≤ count) where
   unfolding fresh setup
   whole-free = (0, 0, first)
 
-  -- its class reaches the class exactly if it reaches the number
+  -- its class reaches what s is rounded up to exactly if it is at least `up s`
   by-number : (s : ℕ) → Serves size s ↔ (up s ≤ down size)
   by-number s = reaches-number s (down size) (omega (arith, down-most size small))
 

@@ -20,9 +20,9 @@ use Rattle.ledger.proofs.ByClass.{class-laws, held}
 use Rattle.ledger.proofs.ReportRule.{report-largest}
 
 -- ---- a size without a class
-pub no-class : (s : ℕ) (l : Ledger Stacks) → greatestServed < s → take by-class s l ≡ (refused (cond (spares l) 4 3), l)
+pub take-no-class : (s : ℕ) (l : Ledger Stacks) → greatestServed < s → take by-class s l ≡ (refused (cond (spares l) 4 3), l)
 unfolding take lowestFrom
-no-class s l h = elim (below? 1 (length (l .pile))) [ below k e ↦ rw (e, rounded-to-none s h) | beyond k e ↦ rw e ]
+take-no-class s l h = elim (below? 1 (length (l .pile))) [ below k e ↦ rw (e, rounded-to-none s h) | beyond k e ↦ rw e ]
 
 pub largest-none : (l : Ledger Stacks) → 2 ≤ length (l .pile) → ((c : ℕ) → l .index c ≡ []) → report by-class l .1 ≡ 0
 largest-none l two empty = report-largest by-class class-laws l two ∙ go (highest? (l .index) classesInUse)
@@ -42,7 +42,7 @@ module _ (size count : ℕ) (small : size < 2 ^ 32) where
     ],
   )
     where
-      -- a free region's class is one that a region can have, so it reaches the class exactly if it reaches the number
+      -- a free region's class is one that a region can have, so it reaches the class exactly if it is at least the number
       reached : (n r o : ℕ) → At (free n r) o (l .line) → Reaches (down n) (roundedUp s) ↔ (up s ≤ down n)
       reached n r o a = reaches-number s (down n) (omega (arith, down-most n (omega (arith, at-weighs a len, w .lined .cover))))
 

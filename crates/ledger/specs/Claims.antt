@@ -255,7 +255,7 @@ pub record ClassClaims (size count : ℕ) : Type 0 where
   pub none-reaches-by-class : (s : ℕ) (l : Ledger Stacks) → WellFormed by-class size count l
       → NoneReaches by-class s l ↔ ((n r o : ℕ) → At (free n r) o (l .line) → ¬ Reaches (down n) (roundedUp s))
   -- document 02: "let take (still refusal 4, after 3) .. read it": of a size without a class, in any ledger at all
-  pub no-class : (s : ℕ) (l : Ledger Stacks) → greatestServed < s → take by-class s l ≡ (refused (cond (spares l) 4 3), l)
+  pub take-no-class : (s : ℕ) (l : Ledger Stacks) → greatestServed < s → take by-class s l ≡ (refused (cond (spares l) 4 3), l)
   -- "the value of the highest non-empty class (0 if none)"
   pub largest-is : (l : Ledger Stacks) → WellFormed by-class size count l → 2 ≤ length (l .pile)
       → (c : ℕ) → l .index c ≢ [] → ((d : ℕ) → c < d → l .index d ≡ []) → report by-class l .1 ≡ value c

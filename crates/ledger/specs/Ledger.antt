@@ -136,7 +136,7 @@ by-class = record {
   choose = λ s line stacks. lowestFrom stacks (roundedUp s);
   largest = λ line stacks. highest stacks classesInUse;
   full = fullOf;
-  -- as numbers, for the claims over every engine; ClassClaims says them by `roundedUp`
+  -- as numbers, for the claims over every engine, a number above every class in use where there is no class; ClassClaims says them by `roundedUp`
   need = up;
   rank = down;
   Kept = Stacked;

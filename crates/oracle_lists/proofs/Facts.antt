@@ -23,6 +23,10 @@ class-rows = record {
 size-rows : SizeRows
 unfolding sizeVerdict down value roundedUp
 size-rows = record {
+  ordinary = refl;
+  not-its-down = refl;
+  not-its-up = refl;
+  not-its-smallest = refl;
   last-with-a-class = refl;
   not-its-class = refl;
   not-its-store = refl;

@@ -72,6 +72,10 @@ pub record ClassRows : Type 0 where
 
 -- rows of sizes, judged: up to 4,026,531,840 a row agrees or differs; above, the Rust's 240 and 0 are listed, and nothing else is
 pub record SizeRows : Type 0 where
+  pub ordinary : sizeVerdict 17 16 17 18 ≡ Agrees
+  pub not-its-down : sizeVerdict 17 17 17 18 ≡ Differs
+  pub not-its-up : sizeVerdict 17 16 16 18 ≡ Differs
+  pub not-its-smallest : sizeVerdict 17 16 17 16 ≡ Differs
   pub last-with-a-class : sizeVerdict 4_026_531_840 239 239 4_026_531_840 ≡ Agrees
   pub not-its-class : sizeVerdict 4_026_531_840 239 240 4_026_531_840 ≡ Differs
   pub not-its-store : sizeVerdict 4_026_531_840 239 239 0 ≡ Differs

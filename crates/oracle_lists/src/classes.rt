@@ -11,8 +11,8 @@ use small_float::RoundedUp;
 use small_float::Size;
 use small_float::ext::Smallest;
 
-// What the Rust rounds a size up to that has no class: a class that no region has.
-const NO_CLASS_IN_RUST: u32 = 240;
+// What the Rust rounds every size up to that has no class here.
+const RUST_ROUNDS_UP_TO: u32 = 240;
 
 // The class rounded up that the Rust gives: the port's, or 240 where the port has none.
 fn judge_up(size: u32, up: u32) -> Verdict
@@ -26,7 +26,7 @@ fn judge_up(size: u32, up: u32) -> Verdict
             Verdict::Differs
         }
         RoundedUp::NoClass => {
-            if up == NO_CLASS_IN_RUST {
+            if up == RUST_ROUNDS_UP_TO {
                 return Verdict::Listed;
             }
             Verdict::Differs

@@ -10,7 +10,7 @@ use Rattle.small_float.specs.declared.RoundedUp.{RoundedUp}
 use Rattle.small_float.specs.declared.RoundedUp.the-variants.{To, NoClass}
 use Rattle.small_float.specs.declared.ext.Smallest.{Smallest}
 use Rattle.small_float.specs.declared.ext.Smallest.the-variants.{Store, TooLarge}
-use Rattle.small_float.specs.RoundedUp.{classIn}
+use Rattle.small_float.specs.RoundedUp.{roundedTo}
 use Rattle.small_float.specs.Smallest.{SmallestStore, refusalOf, storeOf}
 
 -- a class, or a size, is given by its number
@@ -20,14 +20,14 @@ one-class a b p q = λ i. record { 0 = (p ∙ sym q) i }
 pub one-size : {n : ℕ} (a b : Size) → a .0 ≡ n → b .0 ≡ n → a ≡ b
 one-size a b p q = λ i. record { 0 = (p ∙ sym q) i }
 
--- what a size is rounded up to is given by the class in it
-same-rounding : (a b : RoundedUp) → classIn a ≡ classIn b → a ≡ b
+-- what a size is rounded up to is given by the class, or that there is none
+same-rounding : (a b : RoundedUp) → roundedTo a ≡ roundedTo b → a ≡ b
 same-rounding (To c) (To d) e = let number : c .0 ≡ d .0 = cc in ap To (one-class c d number (λ i. d .0))
 same-rounding (To c) NoClass e = clash (cc)
 same-rounding NoClass (To d) e = clash (cc)
 same-rounding NoClass NoClass e = λ i. NoClass
 
-pub one-rounding : {wanted : Option ℕ} (a b : RoundedUp) → classIn a ≡ wanted → classIn b ≡ wanted → a ≡ b
+pub one-rounding : {wanted : Option ℕ} (a b : RoundedUp) → roundedTo a ≡ wanted → roundedTo b ≡ wanted → a ≡ b
 one-rounding a b p q = same-rounding a b (p ∙ sym q)
 
 -- a class's value in 64 bits is a number as it stands

@@ -1,16 +1,16 @@
 -- Document 01's facts on size classes hold, and document 02's on sizes without one. Assumes nothing.
-use mathlib.Core.Path.{_≡_, ap, sym, subst, _∙_}
+use mathlib.Core.Path.{_≡_, ap, subst, _∙_}
 use Prim.Native.Nat.{ℕ, _-_, _*_, _^_, _≤_, _<_}
 use native.Mathlib.Omega.{arith}
 use mathlib.Core.Logic.{_↔_}
-use mathlib.Core.Option.{Option, none, some}
+use mathlib.Core.Option.{none, some}
 use Rattle.basics.specs.Extreme.{Least}
 use Rattle.basics.proofs.Clash.{clash}
 use Rattle.small_float.specs.Class.{down, up, value, classesInUse, greatestServed, roundedUp, Reaches}
 use Rattle.small_float.specs.Facts.{Serves, ClassFacts}
 use Rattle.small_float.proofs.Values.{value-lt, value-le, value-below, value-239, value-240, value-496}
 use Rattle.small_float.proofs.Rounding.{down-value, down-largest, down-most, up-value, up-smallest, up-near}
-use Rattle.small_float.proofs.Rounding.{up-served, up-unserved, reaches, fits, Rounded, to-class, to-none, rounded?, reaches-number}
+use Rattle.small_float.proofs.Rounding.{up-served, up-unserved, reaches, fits, to-class, to-none, rounded?, reaches-number}
 
 down-reaches : (s c : ℕ) → (c ≤ down s) ↔ (value c ≤ s)
 down-reaches s c = (λ h. omega (arith, value-le c (down s) h, down-value s), λ h. down-largest s c h)

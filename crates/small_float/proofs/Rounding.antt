@@ -4,7 +4,7 @@ use Prim.Native.Nat.{ℕ, zero, suc, _+_, _*_, _^_, _≤_, _<_}
 use native.Mathlib.Nat.{mul-le-mul-right}
 use native.Mathlib.Omega.{arith}
 use mathlib.Core.Logic.{_↔_}
-use mathlib.Core.Option.{Option, none, some}
+use mathlib.Core.Option.{none, some}
 use borrow.Author.Tests.{lt-ltb, le-ltb}
 use Rattle.basics.proofs.Decided.{Below, below, beyond, below?}
 use Rattle.small_float.specs.Class.{down, oneIfAny, up, value, classesInUse, greatestServed, roundedUp, Reaches}

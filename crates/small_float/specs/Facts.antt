@@ -23,7 +23,7 @@ pub record ClassFacts : Type 0 where
   pub no-region-has-it : (s n : ℕ) → greatestServed < s → n < 2 ^ 32 → down n < up s
   pub no-class : (s : ℕ) → (roundedUp s ≡ none) ↔ (greatestServed < s)
   pub a-class : (s c : ℕ) → (roundedUp s ≡ some c) ↔ ((s ≤ greatestServed) × (up s ≡ c))
-  -- "01's facts on up are read up to that size": "up never exceeds 240", and there not 239; "up(s) the least whose value is at least s"; "For s from 8
+  -- "01's facts on up are read up to that size": "up never exceeds 240", which up to there is 239; "up(s) the least whose value is at least s"; "For s from 8
   -- to 4,026,531,840 the value of up(s) exceeds s by less than s / 8."
   pub up-most : (s c : ℕ) → roundedUp s ≡ some c → c ≤ 239
   pub up-least : (s c : ℕ) → roundedUp s ≡ some c → Least (λ d. s ≤ value d) c

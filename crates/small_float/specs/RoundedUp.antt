@@ -4,6 +4,6 @@ use mathlib.Core.Option.{Option, none, some}
 use Rattle.small_float.specs.declared.RoundedUp.{RoundedUp}
 use Rattle.small_float.specs.declared.RoundedUp.the-variants.{To, NoClass}
 
-abbrev pub classIn : RoundedUp → Option ℕ
-classIn (To class) = some (class .0)
-classIn NoClass = none
+abbrev pub roundedTo : RoundedUp → Option ℕ
+roundedTo (To class) = some (class .0)
+roundedTo NoClass = none

@@ -3,7 +3,7 @@
 ghost use mathlib.Core.Path.{_≡_};
 ghost use Prim.Native.Nat.{_-_, _*_, _/_, _^_, _≤_, _<_, min};
 ghost use Rattle.small_float.specs.Class.{grain, down, value, classesInUse, roundedUp};
-ghost use Rattle.small_float.specs.RoundedUp.{classIn};
+ghost use Rattle.small_float.specs.RoundedUp.{roundedTo};
 
 pub mod ext;
 
@@ -12,7 +12,7 @@ pub struct Size(pub u32);
 
 pub struct Class(pub u32);
 
-// What a size is rounded up to. The greatest sizes have no class: the regions of the next one would begin at 2^32, and no store is so long.
+// What a size is rounded up to. The greatest sizes have no class: a region of the next one would be of 2^32 units or more, and no store is.
 pub enum RoundedUp {
     To(Class),
     NoClass,
@@ -42,7 +42,7 @@ fn grain_of(size: u32) -> u32
 // The one branch asks whether there is a class. The sums, here and in the next, have none: a size from 8 on holds 8 to 15 steps of 2^g, and a lower one,
 // whose steps are single units, fewer.
 pub fn uint_to_float_round_up(size: Size) -> RoundedUp
-    ensures { λ r. ⌜ classIn r ≡ roundedUp (size .0) ⌝ }
+    ensures { λ r. ⌜ roundedTo r ≡ roundedUp (size .0) ⌝ }
 {
     let s = size.0;
     if GREATEST_SERVED < s {

@@ -49,7 +49,7 @@ abbrev pub OneOf : List ℕ → ℕ → Type 0
 OneOf [] k = ⊥
 OneOf (n ∷ ns) k = (k ≡ n) ⊎ OneOf ns k
 
--- the refusals that a call can give once the gate is open; a question's are in Questions.antt
+-- the refusals that a call can give once the gate is open, a take 6 only if its size has a class (`take-no-class`); a question's are in Questions.antt
 abbrev pub mayGiveBehind : Call → List ℕ
 mayGiveBehind (Take asked) = 3 ∷ 4 ∷ 6 ∷ []
 mayGiveBehind (HandBack span) = 5 ∷ 8 ∷ 6 ∷ []
@@ -111,7 +111,7 @@ pub record Claims (E : Edition) : Type 0 where
   -- and the offset word is another number than the span's
   pub take-3 : (w : Words) (asked : Request) → Room E (w .count) (length (w .nodes)) (length (w .pile))
       → (answerWords E (Take asked) w .0 ≡ refused 3) ↔ (w .freeOffset ≡ 0)
-  -- document 02: "take (still refusal 4, after 3)", of a size without a class: whatever the bits say
+  -- document 02: "take (still refusal 4, after 3)", of a size without a class, whatever the bits say
   pub take-no-class : (w : Words) (asked : Request) → greatestServed < asked .size → Room E (w .count) (length (w .nodes)) (length (w .pile))
       → answerWords E (Take asked) w ≡ (refused (cond (eqb (w .freeOffset) 0) 3 4), w)
   pub back-5 : (w : Words) (span : Token) → Room E (w .count) (length (w .nodes)) (length (w .pile))

@@ -36,7 +36,7 @@ unfoldable pub findClass : (leaves : List ℕ) → (top c : ℕ) → Found
 unfolding leafOrAbove lowFrom
 findClass leaves top c = leafOrAbove leaves top (c / 8) (lowFrom (getD leaves (c / 8) 0) (c % 8))
 
--- the lowest from the class on that a size is rounded up to; where it has none, there is none
+-- from what a size is rounded up to, the lowest class from there on that holds something; from no class, none
 unfoldable pub findFor : (leaves : List ℕ) → (top : ℕ) → Option ℕ → Found
 unfolding findClass
 findFor leaves top (some c) = findClass leaves top c

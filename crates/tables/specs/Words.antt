@@ -14,7 +14,7 @@ pub record Words : Type 0 where
   pub pile : List ℕ  -- free_nodes, lent: one word to a record
 
 -- An edition: the marker of an absent link, the greatest count of records, and the greatest size of a store. Every count is below the marker, so
--- that no record is taken for an absent one, and every size is a 32-bit number, so that it has a class.
+-- that no record is taken for an absent one, and every size is a 32-bit number, so that every region has a class in use.
 pub record Edition : Type 0 where
   pub none : ℕ
   pub limit : ℕ

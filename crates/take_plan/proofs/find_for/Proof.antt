@@ -12,14 +12,14 @@ use borrow.Author.Needs.{needs}
 use Rattle.take_plan.proofs.find_for.Statement.{statement}
 use Rattle.take_plan.proofs.find_for.Tie as tie
 
-from-class : (leaves : List ℕ) (top c : ℕ) (wanted : Option ℕ) (found : Search) → wanted ≡ some c → Tells (findClass leaves top c) found
+found-from : (leaves : List ℕ) (top c : ℕ) (wanted : Option ℕ) (found : Search) → wanted ≡ some c → Tells (findClass leaves top c) found
     → Tells (findFor leaves top wanted) found
 unfolding findFor
-from-class leaves top c wanted found e told = subst (λ (x : Option ℕ). Tells (findFor leaves top x) found) (sym e) told
+found-from leaves top c wanted found e told = subst (λ (x : Option ℕ). Tells (findFor leaves top x) found) (sym e) told
 
-from-none : (leaves : List ℕ) (top : ℕ) (wanted : Option ℕ) → wanted ≡ none → Tells (findFor leaves top wanted) NoClass
+found-none : (leaves : List ℕ) (top : ℕ) (wanted : Option ℕ) → wanted ≡ none → Tells (findFor leaves top wanted) NoClass
 unfolding findFor
-from-none leaves top wanted e = subst (λ (x : Option ℕ). Tells (findFor leaves top x) NoClass) (sym e) tt
+found-none leaves top wanted e = subst (λ (x : Option ℕ). Tells (findFor leaves top x) NoClass) (sym e) tt
 
 uint-to-float-round-up-requires : tie.Need-uint-to-float-round-up-requires
 uint-to-float-round-up-requires c κs = search needs
@@ -38,10 +38,10 @@ enum-told c = search needs
 returns : tie.Need-returns
 returns c =
     let k = c .before .before in
-    from-class _ _ _ _ _ (told-class (k .before .before .uint-to-float-round-up .ensures) (k .c .given .1)) (c .find-class .ensures)
+    found-from _ _ _ _ _ (told-class (k .before .before .uint-to-float-round-up .ensures) (k .c .given .1)) (c .find-class .ensures)
 
 returns-2 : tie.Need-returns-2
-returns-2 c = from-none _ _ _ (told-none (c .before .before .uint-to-float-round-up .ensures) (c .enum-told .given .1))
+returns-2 c = found-none _ _ _ (told-none (c .before .before .uint-to-float-round-up .ensures) (c .enum-told .given .1))
 
 pub find-for-spec : {M : Type 1} → statement M
 find-for-spec =

@@ -1,7 +1,7 @@
 -- By the class rounded down, and the two verdicts on the rest. Assumes nothing.
 use borrow.Author.Tests.{eq-eqb, ne-eqb}
 use borrow.Author.Needs.{needs}
-use Rattle.oracle_lists.specs.Verdicts.{upVerdict, servedVerdict, together, sizeVerdict}
+use Rattle.oracle_lists.specs.Verdicts.{sizeVerdict}
 use Rattle.oracle_lists.proofs.classes.judge_size.Statement.{statement}
 use Rattle.oracle_lists.proofs.classes.judge_size.Tie as tie
 

@@ -12,13 +12,13 @@ use Rattle.oracle_lists.specs.Verdicts.{upVerdict}
 use Rattle.oracle_lists.proofs.classes.judge_up.Statement.{statement}
 use Rattle.oracle_lists.proofs.classes.judge_up.Tie as tie
 
-by-class : {wanted : Option ℕ} (class u : ℕ) → wanted ≡ some class → upVerdict wanted u ≡ cond (eqb class u) Agrees Differs
+with-class : {wanted : Option ℕ} (class u : ℕ) → wanted ≡ some class → upVerdict wanted u ≡ cond (eqb class u) Agrees Differs
 unfolding upVerdict
-by-class class u e = rw e
+with-class class u e = rw e
 
-without : {wanted : Option ℕ} (u : ℕ) → wanted ≡ none → upVerdict wanted u ≡ cond (eqb u 240) Listed Differs
+without-class : {wanted : Option ℕ} (u : ℕ) → wanted ≡ none → upVerdict wanted u ≡ cond (eqb u 240) Listed Differs
 unfolding upVerdict
-without u e = rw e
+without-class u e = rw e
 
 uint-to-float-round-up-requires : tie.Need-uint-to-float-round-up-requires
 uint-to-float-round-up-requires c κs = search needs
@@ -29,7 +29,7 @@ enum-known-class c = search needs
 returns : tie.Need-returns
 returns c =
     let k = c .before .before .before in
-    rw (by-class _ _ (told-class (k .before .before .uint-to-float-round-up .ensures) (k .class .given .1)), eq-eqb _ _ (c .if1 .taken))
+    rw (with-class _ _ (told-class (k .before .before .uint-to-float-round-up .ensures) (k .class .given .1)), eq-eqb _ _ (c .if1 .taken))
 
 enum-told : tie.Need-enum-told
 enum-told c = search needs
@@ -37,17 +37,17 @@ enum-told c = search needs
 returns-2 : tie.Need-returns-2
 returns-2 c =
     let k = c .before in
-    rw (without _ (told-none (k .before .before .uint-to-float-round-up .ensures) (k .enum-told .given .1)), eq-eqb _ _ (c .if2 .taken))
+    rw (without-class _ (told-none (k .before .before .uint-to-float-round-up .ensures) (k .enum-told .given .1)), eq-eqb _ _ (c .if2 .taken))
 
 returns-3 : tie.Need-returns-3
 returns-3 c =
     let k = c .before .before .before in
-    rw (by-class _ _ (told-class (k .before .before .uint-to-float-round-up .ensures) (k .class .given .1)), ne-eqb _ _ (c .if1 .left))
+    rw (with-class _ _ (told-class (k .before .before .uint-to-float-round-up .ensures) (k .class .given .1)), ne-eqb _ _ (c .if1 .left))
 
 returns-4 : tie.Need-returns-4
 returns-4 c =
     let k = c .before in
-    rw (without _ (told-none (k .before .before .uint-to-float-round-up .ensures) (k .enum-told .given .1)), ne-eqb _ _ (c .if2 .left))
+    rw (without-class _ (told-none (k .before .before .uint-to-float-round-up .ensures) (k .enum-told .given .1)), ne-eqb _ _ (c .if2 .left))
 
 pub judge-up-spec : {M : Type 1} → statement M
 judge-up-spec =
