@@ -8,29 +8,21 @@ use Rattle.oracle_lists.specs.declared.rows.Reader.{Reader}
 use Rattle.oracle_lists.specs.declared.tally.Verdict.{Verdict}
 use Rattle.oracle_lists.specs.declared.tally.Verdict.the-variants.{Agrees, Listed, Differs}
 
--- the class that a size is rounded up to; where the port has none, the Rust gives 240
-unfoldable pub upVerdict : Option ℕ → ℕ → Verdict
-upVerdict (some class) u = cond (eqb class u) Agrees Differs
-upVerdict none u = cond (eqb u 240) Listed Differs
+-- what the Rust rounds a size up to: the port's class; where the port has none, 240
+unfoldable pub inRust : Option ℕ → ℕ
+inRust (some class) = class
+inRust none = 240
 
 -- the smallest store, the value of that class; where the port refuses, the Rust gives 0
 unfoldable pub servedVerdict : Option ℕ → ℕ → Verdict
 servedVerdict (some class) smallest = cond (eqb (value class) smallest) Agrees Differs
 servedVerdict none smallest = cond (eqb smallest 0) Listed Differs
 
--- two verdicts on one row: it agrees if both do, and differs if one does
-abbrev pub together : Verdict → Verdict → Verdict
-together Agrees other = other
-together Listed Agrees = Listed
-together Listed Listed = Listed
-together Listed Differs = Differs
-together Differs other = Differs
-
--- a size, its class rounded down, its class rounded up and its smallest store
+-- a size, its class rounded down, its class rounded up and its smallest store; where the port has no class, both of the latter are listed differences
 unfoldable pub sizeVerdict : ℕ → ℕ → ℕ → ℕ → Verdict
-unfolding upVerdict servedVerdict
+unfolding inRust servedVerdict
 sizeVerdict size d u smallest =
-    cond (eqb (down size) d) (together (upVerdict (roundedUp size) u) (servedVerdict (roundedUp size) smallest)) Differs
+    cond (eqb (down size) d) (cond (eqb (inRust (roundedUp size)) u) (servedVerdict (roundedUp size) smallest) Differs) Differs
 
 -- a class and its value; the Rust gives the low 32 bits of it, from class 240 on a listed difference. The list has no class above 263
 unfoldable pub classVerdict : ℕ → ℕ → Verdict

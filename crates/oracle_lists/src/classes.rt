@@ -1,7 +1,7 @@
 // The list of size classes: what the Rust answers, judged by the port.
 ghost use mathlib.Core.Path.{_≡_};
 ghost use Rattle.small_float.specs.Class.{roundedUp};
-ghost use Rattle.oracle_lists.specs.Verdicts.{upVerdict, servedVerdict, together, sizeVerdict, classVerdict, rowVerdict};
+ghost use Rattle.oracle_lists.specs.Verdicts.{inRust, servedVerdict, sizeVerdict, classVerdict, rowVerdict};
 ghost use Rattle.oracle_lists.specs.Comparison.{noBytes, afterByte, afterBytes};
 use crate::rows::Reader;
 use crate::tally::Tally;
@@ -11,26 +11,13 @@ use small_float::RoundedUp;
 use small_float::Size;
 use small_float::ext::Smallest;
 
-// What the Rust rounds every size up to that has no class here.
-const RUST_ROUNDS_UP_TO: u32 = 240;
-
-// The class rounded up that the Rust gives: the port's, or 240 where the port has none.
-fn judge_up(size: u32, up: u32) -> Verdict
-    ensures { λ r. ⌜ r ≡ upVerdict (roundedUp size) up ⌝ }
+// What the Rust rounds a size up to: the port's class, or 240 where the port has none.
+fn up_in_rust(size: u32) -> u32
+    ensures { λ r. ⌜ r ≡ inRust (roundedUp size) ⌝ }
 {
     match small_float::uint_to_float_round_up(Size(size)) {
-        RoundedUp::To(class) => {
-            if class.0 == up {
-                return Verdict::Agrees;
-            }
-            Verdict::Differs
-        }
-        RoundedUp::NoClass => {
-            if up == RUST_ROUNDS_UP_TO {
-                return Verdict::Listed;
-            }
-            Verdict::Differs
-        }
+        RoundedUp::To(class) => class.0,
+        RoundedUp::NoClass => 240,
     }
 }
 
@@ -54,21 +41,6 @@ fn judge_smallest(size: u32, smallest: u32) -> Verdict
     }
 }
 
-// Two verdicts on one row: it agrees if both do, and differs if one does.
-fn both(one: Verdict, other: Verdict) -> Verdict
-    ensures { λ r. ⌜ r ≡ together one other ⌝ }
-{
-    match one {
-        Verdict::Agrees => other,
-        Verdict::Listed => match other {
-            Verdict::Agrees => Verdict::Listed,
-            Verdict::Listed => Verdict::Listed,
-            Verdict::Differs => Verdict::Differs,
-        },
-        Verdict::Differs => Verdict::Differs,
-    }
-}
-
 // A size with its class rounded down, its class rounded up and its smallest store, as the Rust gives them.
 pub fn judge_size(size: u32, down: u32, up: u32, smallest: u32) -> Verdict
     ensures { λ r. ⌜ r ≡ sizeVerdict size down up smallest ⌝ }
@@ -77,7 +49,10 @@ pub fn judge_size(size: u32, down: u32, up: u32, smallest: u32) -> Verdict
     if port_down.0 != down {
         return Verdict::Differs;
     }
-    both(judge_up(size, up), judge_smallest(size, smallest))
+    if up_in_rust(size) != up {
+        return Verdict::Differs;
+    }
+    judge_smallest(size, smallest)
 }
 
 // The last class of the list: the Rust gets a higher class's value by a shift of 32 bits or more, which is an error in it.
