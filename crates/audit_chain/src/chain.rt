@@ -2,10 +2,11 @@
 ghost use mathlib.Core.Path.{_≡_};
 ghost use Prim.Native.Nat.{_+_, _<_, _≤_, _^_};
 ghost use lib.ListN.{length};
-ghost use Rattle.tables.specs.Layout.{dataSize, word as word-of};
+ghost use Rattle.tables.specs.Layout.{dataSize, neighborNext, word as word-of};
 ghost use Rattle.tables.specs.Calls.{edition32};
 ghost use Rattle.records.specs.InWords.{HasRoom, InTable};
 ghost use Rattle.audit_words.specs.Chain.{startsChain, firstRecord, goodUsed, goodRegion, advanced, walkFrom, started, walkEnds};
+ghost use Rattle.audit_chain.specs.Runs.{Within, Comes};
 use answers::Handle;
 use audit_words::Walk;
 use records::nodes;
@@ -74,19 +75,27 @@ fn good_region(nodes: &[u32], scratch: &[u32], t: Totals, w: Walk) -> bool
     good_used(w.used, nodes::word(nodes, r, nodes::USED))
 }
 
-// Past this region to the next.
-fn advance(nodes: &[u32], w: Walk) -> Walk
+// The link of the region at which the walk stands.
+fn next_of(nodes: &[u32], w: Walk) -> u32
+    requires { ⌜ InTable (w .here) (now nodes) ⌝ }
+    ensures { λ v. ⌜ v ≡ word-of (now (nodes .entry)) neighborNext (w .here) ⌝ }
+{
+    nodes::word(nodes, Handle(w.here), nodes::NEIGHBOR_NEXT)
+}
+
+// Past this region to the next, whose number the caller has.
+fn advance(nodes: &[u32], w: Walk, next: u32) -> Walk
     requires { ⌜ InTable (w .here) (now nodes) ⌝ }
     requires { ⌜ w .records + 1 < 2 ^ 32 ⌝ }
     requires { ⌜ w .frees ≤ w .records ⌝ }
     requires { ⌜ w .total ≤ w .offset ⌝ }
     requires { ⌜ w .offset + word-of (now nodes) dataSize (w .here) < 2 ^ 32 ⌝ }
+    requires { ⌜ next ≡ word-of (now nodes) neighborNext (w .here) ⌝ }
     ensures { λ v. ⌜ v ≡ advanced (now (nodes .entry)) w ⌝ }
 {
     let r = Handle(w.here);
     let size = nodes::word(nodes, r, nodes::DATA_SIZE);
     let used = nodes::word(nodes, r, nodes::USED);
-    let next = nodes::word(nodes, r, nodes::NEIGHBOR_NEXT);
     if used == 0 {
         return Walk {
             prev: w.here,
@@ -109,6 +118,57 @@ fn advance(nodes: &[u32], w: Walk) -> Walk
     }
 }
 
+// As far as the regions are good and their records follow each other by number. The next record's number is a sum here, and the link is only compared
+// with it: the processor need not wait for the word before it reads the next record.
+fn run_on(nodes: &[u32], scratch: &[u32], t: Totals, start: Walk) -> Walk
+    requires { ⌜ HasRoom (t .«max_allocs») (now nodes) ⌝ }
+    requires { ⌜ t .«max_allocs» ≤ length (now scratch) ⌝ }
+    requires { ⌜ Within (t .«max_allocs») (t .size) start ⌝ }
+    ensures { λ w. ⌜ Comes (now (nodes .entry)) (now (scratch .entry)) (t .«max_allocs») (t .size) start w ⌝ }
+{
+    let mut w = start;
+    while w.records < t.max_allocs {
+        if !good_region(nodes, scratch, t, w) {
+            return w;
+        }
+        let follows = w.here + 1;
+        let next = next_of(nodes, w);
+        if next != follows {
+            return w;
+        }
+        w = advance(nodes, w, follows);
+    }
+    w
+}
+
+// After so many regions in a row whose records follow each other by number, more of them are expected. With fewer, a store that was long in use, where
+// runs are short, would lose by each of them.
+const MANY: u32 = 8;
+
+// A run, if it is likely to be long; otherwise not a step.
+fn run_if_likely(nodes: &[u32], scratch: &[u32], t: Totals, w: Walk, in_a_row: u32) -> Walk
+    requires { ⌜ HasRoom (t .«max_allocs») (now nodes) ⌝ }
+    requires { ⌜ t .«max_allocs» ≤ length (now scratch) ⌝ }
+    requires { ⌜ Within (t .«max_allocs») (t .size) w ⌝ }
+    ensures { λ v. ⌜ Comes (now (nodes .entry)) (now (scratch .entry)) (t .«max_allocs») (t .size) w v ⌝ }
+{
+    if in_a_row < MANY {
+        return w;
+    }
+    run_on(nodes, scratch, t, w)
+}
+
+// How many in a row, with one region more.
+fn counted(in_a_row: u32, follows: u32, next: u32) -> u32
+    requires { ⌜ «in_a_row» < 4294967295 ⌝ }
+    ensures { λ n. ⌜ n ≤ «in_a_row» + 1 ⌝ }
+{
+    if next == follows {
+        return in_a_row + 1;
+    }
+    0
+}
+
 // From the first record as far as the regions are good.
 pub fn walk_from(nodes: &[u32], scratch: &[u32], t: Totals, first: Handle) -> Walk
     requires { ⌜ HasRoom (t .«max_allocs») (now nodes) ⌝ }
@@ -127,11 +187,16 @@ pub fn walk_from(nodes: &[u32], scratch: &[u32], t: Totals, first: Handle) -> Wa
         frees: 0,
         total: 0,
     };
+    let mut in_a_row: u32 = 0;
     while w.records < t.max_allocs {
         if !good_region(nodes, scratch, t, w) {
             return w;
         }
-        w = advance(nodes, w);
+        let follows = w.here + 1;
+        let next = next_of(nodes, w);
+        in_a_row = counted(in_a_row, follows, next);
+        let v = advance(nodes, w, next);
+        w = run_if_likely(nodes, scratch, t, v, in_a_row);
     }
     w
 }

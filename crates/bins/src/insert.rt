@@ -1,10 +1,13 @@
 // insert_node_into_bin of the Rust, but for the pile and the free total: a record becomes a free region and goes on top of its class.
+ghost use mathlib.Core.Bool.{cond};
 ghost use mathlib.Core.Path.{_≡_};
-ghost use Prim.Native.Nat.{ℕ, _<_};
+ghost use Prim.Native.Nat.{ℕ, _/_, _%_, _<_};
 ghost use mathlib.Core.List.{List};
-ghost use lib.ListN.{getD};
-ghost use Rattle.tables.specs.Layout.{dataOffset, dataSize, binPrev, binNext, neighborPrev, neighborNext, put};
-ghost use Rattle.tables.specs.Steps.{insertNodes, joinNodes, insertAt, insert};
+ghost use lib.Dec.{ltb};
+ghost use lib.ListN.{getD, set};
+ghost use Rattle.tables.specs.Layout.{dataOffset, dataSize, binPrev, binNext, neighborPrev, neighborNext, used, put, putLink};
+ghost use Rattle.tables.specs.Steps.{setBit, joinNodes, insertAt, insert};
+ghost use Rattle.tables.specs.Calls.{edition32};
 ghost use Rattle.records.specs.InWords.{wordsOf, bound, HasRoom, InTable};
 use answers::Handle;
 use records::nodes;
@@ -42,10 +45,9 @@ fn write_links(
     nodes::put(nodes, m, nodes::NEIGHBOR_NEXT, next.0);
 }
 
-// The seven words of record m, which goes on top of its list, and the old top's link back to it.
+// The seven words of record m, which goes above the old top of its list.
 fn write_record(
     nodes: &mut [u32],
-    max_allocs: u32,
     m: Handle,
     size: Size,
     offset: u32,
@@ -54,14 +56,38 @@ fn write_record(
     next: Handle,
 )
     requires { ⌜ InTable (m .0) (now nodes) ⌝ }
-    requires { ⌜ HasRoom «max_allocs» (now nodes) ⌝ }
     ensures { λ _. ⌜ now (nodes .exit)
-        ≡ insertNodes (bound «max_allocs») (m .0) (size .0) offset («old_top» .0) (prev .0) (next .0) (now (nodes .entry)) ⌝ }
+        ≡ put (m .0) used 0 (put (m .0) neighborNext (next .0) (put (m .0) neighborPrev (prev .0)
+        (put (m .0) binNext («old_top» .0) (put (m .0) binPrev (edition32 .none)
+        (put (m .0) dataSize (size .0) (put (m .0) dataOffset offset (now (nodes .entry)))))))) ⌝ }
 {
     write_span(nodes, m, size, offset);
     write_links(nodes, m, Handle(NONE), old_top, prev, next);
     nodes::put(nodes, m, nodes::USED, 0);
-    nodes::put_link(nodes, max_allocs, old_top, nodes::BIN_LIST_PREV, m);
+}
+
+// On top of its class: the old top, if it is a record, links back to m; if it is none, the class was empty and gets its bits. One test tells both.
+fn put_on_top(
+    used_bins: &mut [u8; 32],
+    nodes: &mut [u32],
+    used_bins_top: u32,
+    max_allocs: u32,
+    c: Class,
+    old_top: Handle,
+    m: Handle,
+) -> u32
+    requires { ⌜ c .0 < 256 ⌝ }
+    requires { ⌜ HasRoom «max_allocs» (now nodes) ⌝ }
+    ensures { λ r. ⌜ (r ≡ cond (ltb («old_top» .0) «max_allocs») «used_bins_top» (setBit «used_bins_top» (c .0 / 8)))
+        × (now («used_bins» .exit) ≡ cond (ltb («old_top» .0) «max_allocs») (now («used_bins» .entry))
+        (set (now («used_bins» .entry)) (c .0 / 8) (setBit (getD (now («used_bins» .entry)) (c .0 / 8) 0) (c .0 % 8))))
+        × (now (nodes .exit) ≡ putLink «max_allocs» («old_top» .0) binPrev (m .0) (now (nodes .entry))) ⌝ }
+{
+    if old_top.0 < max_allocs {
+        nodes::put(nodes, old_top, nodes::BIN_LIST_PREV, m.0);
+        return used_bins_top;
+    }
+    bitmap::bits::mark(used_bins, used_bins_top, c)
 }
 
 // The neighbours' links to record m.
@@ -98,8 +124,9 @@ fn insert_into_class(
     let top_link = bin_indices[i];
     let old_top = Handle(top_link);
     let max_allocs = t.max_allocs;
-    let top = bitmap::bits::mark(used_bins, t.used_bins_top, max_allocs, c, old_top);
-    write_record(nodes, max_allocs, m, size, offset, old_top, prev, next);
+    // in this order, for in spoiled tables the old top or a neighbour can be m itself
+    write_record(nodes, m, size, offset, old_top, prev, next);
+    let top = put_on_top(used_bins, nodes, t.used_bins_top, max_allocs, c, old_top, m);
     join_neighbors(nodes, max_allocs, m, prev, next);
     bin_indices[i] = m.0;
     t.with_used_bins_top(top)

@@ -1,10 +1,7 @@
 // remove_node_from_bin of the Rust, but for the pile and the free total: a record leaves the list of its class.
-ghost use mathlib.Core.Bool.{cond};
 ghost use mathlib.Core.Path.{_≡_};
 ghost use Prim.Native.Nat.{ℕ, _<_};
 ghost use mathlib.Core.List.{List};
-ghost use lib.Dec.{ltb};
-ghost use lib.ListN.{set};
 ghost use Rattle.tables.specs.Steps.{unlinkAt, unlink};
 ghost use Rattle.records.specs.InWords.{wordsOf, bound, HasRoom, InTable};
 use answers::Handle;
@@ -13,20 +10,7 @@ use records::totals::Totals;
 use small_float::Class;
 use small_float::Size;
 
-// The class's top is the record after the one that leaves, unless one stands before it.
-fn lead(bin_indices: &mut [u32; 256], max_allocs: u32, c: Class, prev: Handle, next: Handle)
-    requires { ⌜ c .0 < 256 ⌝ }
-    ensures { λ _. ⌜ now («bin_indices» .exit)
-        ≡ cond (ltb (prev .0) «max_allocs») (now («bin_indices» .entry)) (set (now («bin_indices» .entry)) (c .0) (next .0)) ⌝ }
-{
-    if prev.0 < max_allocs {
-        return;
-    }
-    let i = c.0 as usize;
-    bin_indices[i] = next.0;
-}
-
-// A record of class c leaves its list, where it stands between prev and next.
+// A record of class c leaves its list, where it stands between prev and next. Each link is tested once: what depends on it is done where it is known.
 pub fn remove_from_class(
     bin_indices: &mut [u32; 256],
     used_bins: &mut [u8; 32],
@@ -44,10 +28,20 @@ pub fn remove_from_class(
         (wordsOf t (now («bin_indices» .entry)) (now («used_bins» .entry)) (now (nodes .entry)) ps) (c .0) (prev .0) (next .0)) ⌝ }
 {
     let max_allocs = t.max_allocs;
-    let top = bitmap::bits::unmark(used_bins, t.used_bins_top, max_allocs, c, prev, next);
-    lead(bin_indices, max_allocs, c, prev, next);
-    nodes::put_link(nodes, max_allocs, prev, nodes::BIN_LIST_NEXT, next);
-    nodes::put_link(nodes, max_allocs, next, nodes::BIN_LIST_PREV, prev);
+    if prev.0 < max_allocs {
+        nodes::put(nodes, prev, nodes::BIN_LIST_NEXT, next.0);
+        nodes::put_link(nodes, max_allocs, next, nodes::BIN_LIST_PREV, prev);
+        return t;
+    }
+    // the first of its list
+    let i = c.0 as usize;
+    bin_indices[i] = next.0;
+    if next.0 < max_allocs {
+        nodes::put(nodes, next, nodes::BIN_LIST_PREV, prev.0);
+        return t;
+    }
+    // and the only one
+    let top = bitmap::bits::unmark(used_bins, t.used_bins_top, c);
     t.with_used_bins_top(top)
 }
 

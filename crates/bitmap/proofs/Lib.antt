@@ -1,2 +1,3 @@
--- Told: the number that tells what a search found.
+-- Told: the number that tells what a search found. Low: the lowest set bit of a number of so many bits is one of them.
 pub mod Told
+pub mod Low

@@ -3,7 +3,7 @@ use mathlib.Core.Bool.{cond}
 use mathlib.Core.Path.{_≡_}
 use Prim.Native.Nat.{ℕ, _/_, _%_, _<_}
 use mathlib.Core.List.{List}
-use lib.Dec.{ltb, eqb}
+use lib.Dec.{eqb}
 use lib.ListN.{getD, set}
 use Rattle.tables.specs.Steps.{setBit, clearBit}
 use Rattle.tables.specs.Search.{Found, class-is, no-class, bad-bits}
@@ -20,27 +20,16 @@ pub record BitsMean : Type 0 where
   pub bits-are : (top′ top : ℕ) (leaves′ leaves : List ℕ) → Bits top′ leaves′ top leaves → (top ≡ top′) × (leaves ≡ leaves′)
   pub may-be-left : (top : ℕ) (leaves : List ℕ) → Bits top leaves top leaves
 
--- class c gets its first record, unless its old top h is one of n
-abbrev pub Marked : (n top c h : ℕ) → (leaves : List ℕ) → ℕ → List ℕ → Type 0
-Marked n top c h leaves =
-    Bits
-    (cond (ltb h n) top (setBit top (c / 8)))
-    (cond (ltb h n) leaves (set leaves (c / 8) (setBit (getD leaves (c / 8) 0) (c % 8))))
+-- class c holds something
+abbrev pub Marked : (top c : ℕ) → (leaves : List ℕ) → ℕ → List ℕ → Type 0
+Marked top c leaves = Bits (setBit top (c / 8)) (set leaves (c / 8) (setBit (getD leaves (c / 8) 0) (c % 8)))
 
 -- class c holds nothing any more
-abbrev pub Cleared : (top c : ℕ) → (leaves : List ℕ) → ℕ → List ℕ → Type 0
-Cleared top c leaves =
+abbrev pub Unmarked : (top c : ℕ) → (leaves : List ℕ) → ℕ → List ℕ → Type 0
+Unmarked top c leaves =
     Bits
     (cond (eqb (clearBit 8 (getD leaves (c / 8) 0) (c % 8)) 0) (clearBit 32 top (c / 8)) top)
     (set leaves (c / 8) (clearBit 8 (getD leaves (c / 8) 0) (c % 8)))
-
--- a record between the links p and x leaves class c
-abbrev pub Unmarked : (n top c p x : ℕ) → (leaves : List ℕ) → ℕ → List ℕ → Type 0
-Unmarked n top c p x leaves =
-    Bits
-    (cond (ltb p n) top
-    (cond (ltb x n) top (cond (eqb (clearBit 8 (getD leaves (c / 8) 0) (c % 8)) 0) (clearBit 32 top (c / 8)) top)))
-    (cond (ltb p n) leaves (cond (ltb x n) leaves (set leaves (c / 8) (clearBit 8 (getD leaves (c / 8) 0) (c % 8)))))
 
 -- ---- what a search found, as the code has it: a class, which is one of the 256, or why there is none
 abbrev pub Tells : Found → Search → Type 0

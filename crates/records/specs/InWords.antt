@@ -2,8 +2,9 @@
 -- so that a new one is named in these two files. Assumes nothing.
 use mathlib.Core.Logic.{_↔_}
 use Prim.Native.Nat.{ℕ, _+_, _-_, _*_, _≤_, _<_}
-use mathlib.Core.List.{List}
-use lib.ListN.{length}
+use mathlib.Core.Path.{_≡_}
+use mathlib.Core.List.{List, [], _∷_}
+use lib.ListN.{length, getD}
 use Rattle.tables.specs.Words.{Words, Bounds}
 use Rattle.tables.specs.Calls.{edition32}
 use Rattle.answers.specs.Refusals.{numberOf}
@@ -44,6 +45,22 @@ withFreeOffset t offset = scalars (t .size) (t .«max_allocs») (t .«free_stora
 
 abbrev pub withTopBits : Totals → ℕ → Totals
 withTopBits t top = scalars (t .size) (t .«max_allocs») (t .«free_storage») (t .«free_offset») top
+
+-- ---- the same as an array, in this order
+abbrev pub inArray : Totals → List ℕ
+inArray t = t .size ∷ t .«max_allocs» ∷ t .«free_storage» ∷ t .«free_offset» ∷ t .«used_bins_top» ∷ []
+
+abbrev pub ofArray : List ℕ → Totals
+ofArray a = scalars (getD a 0 0) (getD a 1 0) (getD a 2 0) (getD a 3 0) (getD a 4 0)
+
+-- what stands there when t is put back: its scalars, but for the size and the count, which stay
+abbrev pub putBack : Totals → List ℕ → List ℕ
+putBack t a = inArray (withCount (withSize t (ofArray a .size)) (ofArray a .«max_allocs»))
+
+-- an array and the scalars in it say the same; proofs/Arrays.antt makes it
+pub record ArrayFacts : Type 0 where
+  pub of-in : (t : Totals) → ofArray (inArray t) ≡ t
+  pub in-of : (a : List ℕ) → length a ≡ 5 → inArray (ofArray a) ≡ a
 
 -- ---- scalars, arrays and tables as words
 abbrev pub wordsOf : Totals → (heads leaves nodes pile : List ℕ) → Words

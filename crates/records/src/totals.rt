@@ -6,6 +6,7 @@ ghost use mathlib.Core.Path.{_≡_};
 ghost use mathlib.Core.Bool.{true};
 ghost use Prim.Native.Nat.{_≤_};
 ghost use Rattle.records.specs.InWords.{zeroTotals, blankTotals, withSize, withCount, withFreeStorage, withFreeOffset, withTopBits};
+ghost use Rattle.records.specs.InWords.{inArray, ofArray, putBack};
 
 pub struct Totals {
     pub size: u32,
@@ -14,6 +15,9 @@ pub struct Totals {
     pub free_offset: u32,
     pub used_bins_top: u32,
 }
+
+// An array tells the proof its length where it is lent as a slice; there is nothing to do.
+fn as_slice(_scalars: &[u32]) {}
 
 impl Totals {
     // Of no store: with a count of 0 every call on them is refused.
@@ -114,6 +118,44 @@ impl Totals {
             free_offset: self.free_offset,
             used_bins_top: used_bins_top,
         }
+    }
+
+    // How many they are: the length of an array that holds them, in the order of the fields.
+    pub const SCALARS: usize = 5;
+
+    // Those that stand in an array.
+    pub fn of_array(scalars: &[u32; Totals::SCALARS]) -> Totals
+        ensures { λ t. ⌜ t ≡ ofArray (now (scalars .entry)) ⌝ }
+    {
+        Totals {
+            size: scalars[0],
+            max_allocs: scalars[1],
+            free_storage: scalars[2],
+            free_offset: scalars[3],
+            used_bins_top: scalars[4],
+        }
+    }
+
+    pub fn in_array(self) -> [u32; Totals::SCALARS]
+        ensures { λ a. ⌜ a ≡ inArray self ⌝ }
+    {
+        [
+            self.size,
+            self.max_allocs,
+            self.free_storage,
+            self.free_offset,
+            self.used_bins_top,
+        ]
+    }
+
+    // Put back into the array that they were read from: size and count stand there already, for no take and no hand-back changes them.
+    pub fn put_back(self, scalars: &mut [u32; Totals::SCALARS])
+        ensures { λ _. ⌜ now (scalars .exit) ≡ putBack self (now (scalars .entry)) ⌝ }
+    {
+        as_slice(scalars);
+        scalars[2] = self.free_storage;
+        scalars[3] = self.free_offset;
+        scalars[4] = self.used_bins_top;
     }
 
     // Every one is the other's.

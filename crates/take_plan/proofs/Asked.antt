@@ -1,6 +1,8 @@
 -- What a take comes to before it looks at a region is what the model's plan comes to: spares asked for first, then fit. Assumes nothing.
 use mathlib.Core.Path.{_≡_, refl, sym, ap, subst, _∙_}
-use mathlib.Core.Bool.{false}
+use mathlib.Core.Bool.{Bool, true, false, cond}
+use mathlib.Core.List.{List}
+use mathlib.Core.Option.{Option, none, some}
 use Prim.Native.Nat.{ℕ, _≤_, _<_}
 use native.Mathlib.Omega.{arith}
 use lib.Dec.{eqb}
@@ -9,7 +11,7 @@ use borrow.Author.Tests.{lt-ltb, eq-eqb, ne-eqb}
 use Rattle.small_float.specs.Class.{roundedUp}
 use Rattle.small_float.specs.declared.Class.{Class}
 use Rattle.tables.specs.Words.{Words}
-use Rattle.tables.specs.Search.{Found, class-is, no-class, bad-bits, findFor}
+use Rattle.tables.specs.Search.{Found, class-is, no-class, bad-bits, findClass, findFor}
 use Rattle.tables.specs.Take.{stop, planRecord, planClass, planTake}
 use Rattle.answers.specs.declared.Refusal.{Refusal}
 use Rattle.answers.specs.declared.Refusal.the-variants.{NoSpareRecord, NoRegion, Unsound}
@@ -21,8 +23,8 @@ use Rattle.take_plan.specs.declared.Sought.{Sought}
 use Rattle.take_plan.specs.declared.Sought.the-variants.{Stop, In}
 use Rattle.take_plan.specs.Plan.{Seeks, SeeksMean}
 
-some : (n : ℕ) → 1 ≤ n → eqb n 0 ≡ false
-some n h = ne-eqb n 0 (λ e. absurd (omega (arith, e, h)))
+spare : (n : ℕ) → 1 ≤ n → eqb n 0 ≡ false
+spare n h = ne-eqb n 0 (λ e. absurd (omega (arith, e, h)))
 
 -- what was found, from what the code was told
 none-told : (f : Found) → Tells f NoClass → f ≡ no-class
@@ -50,8 +52,8 @@ module _ (w : Words) (s : ℕ) (found : Search) (sought : Sought)
   by-number : (why : Refusal) → Seeks (w .freeOffset) found (Stop why) → stop (numberOf why) ≡ planTake w s
   unfolding planTake planClass
   by-number NoSpareRecord h = rw (eq-eqb _ _ h)
-  by-number NoRegion h = rw (some _ (h .0), none-told (findFor (w .usedBins) (w .usedBinsTop) (roundedUp s)) (told-as (h .1)))
-  by-number Unsound h = rw (some _ (h .0), bits-told (findFor (w .usedBins) (w .usedBinsTop) (roundedUp s)) (told-as (h .1)))
+  by-number NoRegion h = rw (spare _ (h .0), none-told (findFor (w .usedBins) (w .usedBinsTop) (roundedUp s)) (told-as (h .1)))
+  by-number Unsound h = rw (spare _ (h .0), bits-told (findFor (w .usedBins) (w .usedBinsTop) (roundedUp s)) (told-as (h .1)))
 
   pub stopped-plan : {why : Refusal} → sought ≡ Stop why → stop (numberOf why) ≡ planTake w s
   stopped-plan {why} e = by-number why (subst (λ (x : Sought). Seeks (w .freeOffset) found x) e seeks)
@@ -61,7 +63,23 @@ module _ (w : Words) (s : ℕ) (found : Search) (sought : Sought)
   record-plan {c} e =
       let h = subst (λ (x : Sought). Seeks (w .freeOffset) found x) e seeks in
       let its = class-told (findFor (w .usedBins) (w .usedBinsTop) (roundedUp s)) c (told-as (h .1)) in
-      rw (some _ (h .0), its .0, lt-ltb _ _ (its .1))
+      rw (spare _ (h .0), its .0, lt-ltb _ _ (its .1))
+
+-- ---- from what the size is rounded up to
+-- a class: what is told of the search from it is told of the take's
+pub found-from : (leaves : List ℕ) (top c : ℕ) (wanted : Option ℕ) (found : Search) → wanted ≡ some c → Tells (findClass leaves top c) found
+    → Tells (findFor leaves top wanted) found
+unfolding findFor
+found-from leaves top c wanted found e told = subst (λ (x : Option ℕ). Tells (findFor leaves top x) found) (sym e) told
+
+-- none: by the spares alone
+by-spares : (few : Bool) → stop (cond few 3 4) ≡ cond few (stop 3) (stop 4)
+by-spares true = refl
+by-spares false = refl
+
+pub plan-without : (w : Words) (s : ℕ) → roundedUp s ≡ none → stop (cond (eqb (w .freeOffset) 0) 3 4) ≡ planTake w s
+unfolding planTake planClass findFor
+plan-without w s e = rw e (by-spares (eqb (w .freeOffset) 0))
 
 -- ---- one outcome
 tag : Search → ℕ

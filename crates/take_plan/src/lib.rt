@@ -2,13 +2,15 @@
 //
 // Private to the allocator, though Rattle has no word for that: the room that is required here the gate has tested.
 ghost use mathlib.Core.Path.{_≡_};
+ghost use mathlib.Core.Bool.{cond};
 ghost use Prim.Native.Nat.{_≤_, _<_};
 ghost use mathlib.Core.List.{[]};
+ghost use lib.Dec.{eqb};
 ghost use lib.ListN.{length as length-of, getD};
 ghost use Rattle.small_float.specs.Class.{roundedUp};
-ghost use Rattle.tables.specs.Search.{findFor};
+ghost use Rattle.small_float.specs.RoundedUp.{roundedTo};
 ghost use Rattle.tables.specs.Take.{planSpare, planRegion, planRecord, planTake};
-ghost use Rattle.bitmap.specs.InBits.{Tells};
+ghost use Rattle.answers.specs.Refusals.{numberOf};
 ghost use Rattle.records.specs.InWords.{wordsOf, HasRoom};
 ghost use Rattle.take_plan.specs.Plan.{planOf, Seeks};
 use answers::Handle;
@@ -137,18 +139,27 @@ fn seek(spares: u32, found: Found) -> Sought
     }
 }
 
-// The search goes upward from the class that the size is rounded up to: every region from there on is long enough. Without a class there is nothing to
-// search.
-fn find_for(size: Size, used_bins: &[u8; 32], used_bins_top: u32) -> Found
-    ensures { λ r. ⌜ Tells (findFor (now («used_bins» .entry)) «used_bins_top» (roundedUp (size .0))) r ⌝ }
+// The class from which a take searches upward: every region from there on is long enough.
+fn searched_from(size: Size) -> RoundedUp
+    ensures { λ r. ⌜ roundedTo r ≡ roundedUp (size .0) ⌝ }
 {
-    match small_float::uint_to_float_round_up(size) {
-        RoundedUp::To(c) => search::find_class(used_bins, used_bins_top, c),
-        RoundedUp::NoClass => Found::NoClass,
+    small_float::uint_to_float_round_up(size)
+}
+
+// A size without a class is served by no region: nothing is looked for, and the refusal is that of spares or that of fit.
+fn without_class(spares: u32) -> Refusal
+    ensures { λ why. ⌜ numberOf why ≡ cond (eqb spares 0) 3 4 ⌝ }
+{
+    if spares == 0 {
+        return Refusal::NoSpareRecord;
     }
+    Refusal::NoRegion
 }
 
 // What a take of this size finds.
+//
+// What the search found is matched where it is found. Handed on through a function that has another way out, its two words are packed into one and taken
+// apart again at every take.
 pub fn plan(
     t: Totals,
     size: Size,
@@ -162,12 +173,17 @@ pub fn plan(
     ensures { λ g. ⌜ planOf g
         ≡ planTake (wordsOf t (now («bin_indices» .entry)) (now («used_bins» .entry)) (now (nodes .entry)) (now («free_nodes» .entry))) (size .0) ⌝ }
 {
-    let found = find_for(size, used_bins, t.used_bins_top);
-    match seek(t.free_offset, found) {
-        Sought::Stop(why) => Planned::Stop(why),
-        Sought::In(c) => {
-            let top = bin_indices[c.0 as usize];
-            plan_record(t, size, c, Handle(top), nodes, free_nodes)
+    match searched_from(size) {
+        RoundedUp::To(least) => {
+            let found = search::find_class(used_bins, t.used_bins_top, least);
+            match seek(t.free_offset, found) {
+                Sought::Stop(why) => Planned::Stop(why),
+                Sought::In(c) => {
+                    let top = bin_indices[c.0 as usize];
+                    plan_record(t, size, c, Handle(top), nodes, free_nodes)
+                }
+            }
         }
+        RoundedUp::NoClass => Planned::Stop(without_class(t.free_offset)),
     }
 }

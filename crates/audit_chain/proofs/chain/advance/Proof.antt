@@ -11,9 +11,6 @@ word-requires c κs = search needs
 word-requires-2 : tie.Need-word-requires-2
 word-requires-2 c κs = search needs
 
-word-requires-3 : tie.Need-word-requires-3
-word-requires-3 c κs = search needs
-
 add-t8 : tie.Need-add-t8
 add-t8 c = search needs
 
@@ -30,7 +27,8 @@ returns : tie.Need-returns
 unfolding advanced
 returns c =
     let w = c .before .before .before .before .before in
-    rw (← (w .before .before .word .ensures), ← (w .before .word2 .ensures), ← (w .word3 .ensures), eq-eqb _ _ (c .before .before .before .before .if1 .taken))
+    let next = w .before .before .before .pre .1 .1 .1 .1 .1 in
+    rw (← (w .before .word .ensures), ← (w .word2 .ensures), ← next, eq-eqb _ _ (c .before .before .before .before .if1 .taken))
 
 add-t12 : tie.Need-add-t12
 add-t12 c = search needs
@@ -42,7 +40,8 @@ returns-2 : tie.Need-returns-2
 unfolding advanced
 returns-2 c =
     let w = c .before .before .before in
-    rw (← (w .before .before .word .ensures), ← (w .before .word2 .ensures), ← (w .word3 .ensures), ne-eqb _ _ (c .before .before .if1 .left))
+    let next = w .before .before .before .pre .1 .1 .1 .1 .1 in
+    rw (← (w .before .word .ensures), ← (w .word2 .ensures), ← next, ne-eqb _ _ (c .before .before .if1 .left))
 
 pub advance-spec : {M : Type 1} → statement M
 advance-spec =
@@ -50,7 +49,6 @@ advance-spec =
     (tie.spec
     word-requires
     word-requires-2
-    word-requires-3
     add-t8
     add-t9
     add-t10

@@ -1,66 +1,107 @@
--- The walk so far is the model's, and its sums stay within the count and the size. Assumes nothing.
-use mathlib.Core.Path.{_≡_, sym, ap, _∙_}
-use Prim.Native.Nat.{_-_}
-use native.Mathlib.Nat.{sub-zero}
+-- The walk has come from the first record to where it stands. Assumes nothing.
+use mathlib.Core.Path.{sym, ap, _∙_}
+use Prim.Native.Nat.{_-_, _≤_}
 use borrow.Author.Tests.{not-true, not-false}
 use Rattle.tables.specs.Calls.{edition32}
 use Rattle.audit_words.specs.declared.Walk.{Walk}
-use Rattle.audit_words.specs.Chain.{started, advanced, walkFrom}
+use Rattle.audit_words.specs.Chain.{started, advanced}
 use Rattle.audit_words.proofs.ChainMet.{is-good}
-use Rattle.audit_words.proofs.Turns.{Bounded, walk-turn, walk-stop, walk-end, walk-bounded}
+use Rattle.audit_words.proofs.Turns.{walk-stop, walk-end}
+use Rattle.audit_chain.specs.Runs.{Comes}
+use Rattle.audit_chain.proofs.Coming.{comes-nowhere, comes-past, comes-on, comes-to-end}
 use native.Mathlib.Omega.{arith}
 use Rattle.audit_chain.proofs.chain.walk_from.Statement.{statement}
 use Rattle.audit_chain.proofs.chain.walk_from.Tie as tie
 
+-- no more regions in a row than records met
 abbrev Inv-loop : tie.InvT-loop
-Inv-loop nodes scratch t start w₀ w =
-    (walkFrom (t .«max_allocs») nodes scratch (t .«max_allocs») (t .size) (started edition32 start)
-    ≡ walkFrom (t .«max_allocs» - w .records) nodes scratch (t .«max_allocs») (t .size) w)
-    × Bounded (t .«max_allocs») (t .size) w
+Inv-loop nodes scratch t start w₀ in-a-row₀ w in-a-row =
+    Comes nodes scratch (t .«max_allocs») (t .size) (started edition32 start) w × (in-a-row ≤ w .records)
 
 abbrev μ-loop : tie.MeasureT-loop
-μ-loop nodes scratch t start w₀ w = t .«max_allocs» - w .records
+μ-loop nodes scratch t start w₀ in-a-row₀ w in-a-row = t .«max_allocs» - w .records
 
 loop-holds : tie.Need-loop-holds Inv-loop μ-loop
 loop-holds c = (
-  rw sub-zero,
-  record { records-low = omega arith; frees-low = omega arith; total-low = omega arith; offset-low = omega arith },
+  comes-nowhere _ _ _ _ _
+      (record { records-within = omega arith; frees-within = omega arith; total-within = omega arith; offset-within = omega arith }),
+  omega arith,
 )
 
 good-region-requires : tie.Need-good-region-requires Inv-loop μ-loop
-good-region-requires c κs = (omega arith, (omega arith, c .before .before .before .loop .inv .1 .offset-low))
+good-region-requires c κs = (omega arith, (omega arith, c .before .before .before .loop .inv .0 .within .offset-within))
 
 returns : tie.Need-returns Inv-loop μ-loop
 returns c =
-    let k = c .before .before .before .before .before in (
-      sym (k .loop .inv .0
-          ∙ walk-stop _ _ _ _ _ (c .before .before .if1 .taken) (sym (c .before .good-region .ensures) ∙ not-true _ (c .if2 .taken))),
-      k .loop .inv .1 .records-low,
+    let so-far = c .before .before .before .before .before .loop .inv .0 in
+    let bad = sym (c .before .good-region .ensures) ∙ not-true _ (c .if2 .taken) in (
+      comes-to-end _ _ _ _ edition32 _ _ so-far (walk-stop _ _ _ _ _ (c .before .before .if1 .taken) bad),
+      so-far .within .records-within,
     )
+
+add-follows : tie.Need-add-follows Inv-loop μ-loop
+add-follows c =
+    let good = is-good _ _ _ _ _ (sym (c .before .before .good-region .ensures) ∙ not-false _ (c .before .if2 .left)) in
+    omega (arith, good .low)
+
+next-of-requires : tie.Need-next-of-requires Inv-loop μ-loop
+next-of-requires c κs =
+    let good = is-good _ _ _ _ _ (sym (c .before .before .good-region .ensures) ∙ not-false _ (c .before .if2 .left)) in
+    omega (arith, good .low)
+
+counted-requires : tie.Need-counted-requires Inv-loop μ-loop
+counted-requires c κs =
+    let turn = c .before .before .before .before in
+    omega (arith, turn .if1 .taken, turn .before .before .before .loop .inv .1)
 
 advance-requires : tie.Need-advance-requires Inv-loop μ-loop
 advance-requires c κs =
-    let k = c .before .before .before .before .before in
-    let good = is-good _ _ _ _ _ (sym (c .before .good-region .ensures) ∙ not-false _ (c .if2 .left)) in
-    let bounds = k .loop .inv .1 in
-    (omega (arith, good .low), (omega arith, (bounds .frees-low, (bounds .total-low, omega (arith, good .inside)))))
+    let tested = c .before .before .before .before in
+    let good = is-good _ _ _ _ _ (sym (tested .good-region .ensures) ∙ not-false _ (c .before .before .before .if2 .left)) in
+    let bounds = tested .before .before .before .before .loop .inv .0 .within in (
+      omega (arith, good .low),
+      (
+        omega (arith, tested .before .if1 .taken),
+        (bounds .frees-within, (bounds .total-within, (omega (arith, good .inside), c .before .next-of .ensures))),
+      ),
+    )
+
+run-if-likely-requires : tie.Need-run-if-likely-requires Inv-loop μ-loop
+run-if-likely-requires c κs =
+    let tested = c .before .before .before .before .before in
+    let good = sym (tested .good-region .ensures) ∙ not-false _ (c .before .before .before .before .if2 .left) in
+    let so-far = tested .before .before .before .before .loop .inv .0 in
+    let past = comes-past _ _ _ _ _ _ _ so-far (tested .before .if1 .taken) good (c .advance .ensures) in
+    (omega arith, (omega arith, past .within))
 
 loop-less : tie.Need-loop-less Inv-loop μ-loop
 unfolding advanced
-loop-less c = omega (arith, ap (λ (v : Walk). v .records) (c .advance .ensures))
+loop-less c = omega (arith, ap (λ (v : Walk). v .records) (c .before .advance .ensures), c .run-if-likely .ensures .no-fewer)
 
 loop-again : tie.Need-loop-again Inv-loop μ-loop
+unfolding advanced
 loop-again c =
-    let k = c .before .before .before .before .before .before in
-    let turn = c .before .before .before .if1 .taken in
-    let good = sym (c .before .before .good-region .ensures) ∙ not-false _ (c .before .if2 .left) in
-    rw (c .advance .ensures) (
-      k .loop .inv .0 ∙ walk-turn _ _ _ _ _ turn good,
-      walk-bounded _ _ _ _ _ turn good (k .loop .inv .1),
+    let stepped = c .before in
+    let tested = stepped .before .before .before .before .before in
+    let good = sym (tested .good-region .ensures) ∙ not-false _ (stepped .before .before .before .before .if2 .left) in
+    let so-far = tested .before .before .before .before .loop in
+    let past = comes-past _ _ _ _ _ _ _ (so-far .inv .0) (tested .before .if1 .taken) good (stepped .advance .ensures) in (
+      comes-on _ _ _ _ _ _ _ past (c .run-if-likely .ensures),
+      omega (
+        arith,
+        so-far .inv .1,
+        stepped .before .counted .ensures,
+        ap (λ (v : Walk). v .records) (stepped .advance .ensures),
+        c .run-if-likely .ensures .no-fewer,
+      ),
     )
 
 returns-2 : tie.Need-returns-2 Inv-loop μ-loop
-returns-2 c = (sym (c .before .before .before .loop .inv .0 ∙ walk-end _ _ _ _ _ (c .if1 .left)), c .before .before .before .loop .inv .1 .records-low)
+returns-2 c =
+    let so-far = c .before .before .before .loop .inv .0 in (
+      comes-to-end _ _ _ _ edition32 _ _ so-far (walk-end _ _ _ _ _ (c .if1 .left)),
+      so-far .within .records-within,
+    )
 
 pub walk-from-spec : {M : Type 1} → statement M
 walk-from-spec =
@@ -71,7 +112,11 @@ walk-from-spec =
     loop-holds
     good-region-requires
     returns
+    add-follows
+    next-of-requires
+    counted-requires
     advance-requires
+    run-if-likely-requires
     loop-less
     loop-again
     returns-2)

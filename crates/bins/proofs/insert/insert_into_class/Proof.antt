@@ -1,5 +1,5 @@
--- The code is `insertAt`: the bits, then the record, then its neighbours, then the top. Assumes nothing.
-use Rattle.tables.specs.Steps.{insertAt}
+-- The code is `insertAt`: the record, then the old top or the bits, then its neighbours, then the top. Assumes nothing.
+use Rattle.tables.specs.Steps.{insertAt, insertNodes}
 use borrow.Author.Needs.{needs}
 use Rattle.bins.proofs.insert.insert_into_class.Statement.{statement}
 use Rattle.bins.proofs.insert.insert_into_class.Tie as tie
@@ -13,11 +13,11 @@ mul-top-link c = search needs
 element-copy-out-top-link : tie.Need-element-copy-out-top-link
 element-copy-out-top-link c = search needs
 
-mark-requires : tie.Need-mark-requires
-mark-requires c κs = search needs
-
 write-record-requires : tie.Need-write-record-requires
 write-record-requires c κs = search needs
+
+put-on-top-requires : tie.Need-put-on-top-requires
+put-on-top-requires c κs = search needs
 
 join-neighbors-requires : tie.Need-join-neighbors-requires
 join-neighbors-requires c κs = search needs
@@ -35,17 +35,18 @@ same-length : tie.Need-same-length
 same-length c = search needs
 
 returns : tie.Need-returns
-unfolding insertAt
+unfolding insertAt insertNodes
 returns c ps =
     let join = c .before .before .before in
-    let write = join .before .before .before .before in
-    let mark = write .before .before in
+    let above = join .before .before .before .before in
+    let write = above .before .before .before .before .before in
     rw (
       c .with-used-bins-top .ensures,
       join .join-neighbors .ensures,
+      above .put-on-top .ensures .2,
       write .write-record .ensures,
-      mark .mark .ensures .top-is,
-      mark .mark .ensures .leaves-are,
+      above .put-on-top .ensures .0,
+      above .put-on-top .ensures .1,
     )
 
 pub insert-into-class-spec : {M : Type 1} → statement M
@@ -55,8 +56,8 @@ insert-into-class-spec =
     cast-i
     mul-top-link
     element-copy-out-top-link
-    mark-requires
     write-record-requires
+    put-on-top-requires
     join-neighbors-requires
     mul-bin-indices
     element-write-bin-indices

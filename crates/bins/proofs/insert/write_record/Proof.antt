@@ -1,5 +1,4 @@
--- The span, the links, then two writes, one after the other. Assumes nothing.
-use Rattle.tables.specs.Steps.{insertNodes}
+-- The span, the links, then one write, one after the other. Assumes nothing.
 use borrow.Author.Needs.{needs}
 use Rattle.bins.proofs.insert.write_record.Statement.{statement}
 use Rattle.bins.proofs.insert.write_record.Tie as tie
@@ -13,17 +12,13 @@ write-links-requires c κs = search needs
 put-requires : tie.Need-put-requires
 put-requires c κs = search needs
 
-put-link-requires : tie.Need-put-link-requires
-put-link-requires c κs = search needs
-
 same-length : tie.Need-same-length
 same-length c = search needs
 
 returns : tie.Need-returns
-unfolding insertNodes
 returns c = cc
 
 pub write-record-spec : {M : Type 1} → statement M
 write-record-spec =
     tie.close
-    (tie.spec write-span-requires write-links-requires put-requires put-link-requires same-length returns)
+    (tie.spec write-span-requires write-links-requires put-requires same-length returns)

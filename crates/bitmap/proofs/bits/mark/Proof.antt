@@ -3,7 +3,6 @@ use Prim.Native.Nat.{ℕ, _*_, _/_, _%_, _^_, _<_}
 use mathlib.Core.Path.{_≡_, refl, _∙_}
 use native.Mathlib.Nat.{one-mul}
 use lib.Pow.{shl-exact}
-use borrow.Author.Tests.{lt-ltb, le-ltb}
 use native.Mathlib.Omega.{arith}
 use borrow.Author.Needs.{needs}
 use Rattle.bitmap.proofs.bits.mark.Statement.{statement}
@@ -12,9 +11,6 @@ use Rattle.bitmap.proofs.bits.mark.Tie as tie
 -- 1 << k at a width of n bits
 shl-one : (n k : ℕ) → k < n → (1 * 2 ^ k) % 2 ^ n ≡ 2 ^ k
 shl-one n k h = shl-exact {a = 1} 1 k n (omega arith) (omega arith) ∙ one-mul (2 ^ k)
-
-returns : tie.Need-returns
-returns c = simp (lt-ltb _ _ (c .if1 .taken)) (record { top-is = refl; leaves-are = refl })
 
 cast-i : tie.Need-cast-i
 cast-i c = search needs
@@ -34,23 +30,21 @@ element-write-used-bins c = search needs
 shl-result : tie.Need-shl-result
 shl-result c = search needs
 
-returns-2 : tie.Need-returns-2
-returns-2 c =
-    let k = c .before .before .before .before .before .args .c .0 in
+returns : tie.Need-returns
+returns c =
+    let k = c .before .before .before .args .c .0 in
     let h : k / 8 < 32 = omega arith in
     let g : k % 8 < 8 = omega arith in
-    simp (le-ltb _ _ (c .before .before .before .if1 .left), shl-one 32 (k / 8) h, shl-one 8 (k % 8) g)
-    (record { top-is = refl; leaves-are = refl })
+    simp (shl-one 32 (k / 8) h, shl-one 8 (k % 8) g) (record { top-is = refl; leaves-are = refl })
 
 pub mark-spec : {M : Type 1} → statement M
 mark-spec =
     tie.close
     (tie.spec
-    returns
     cast-i
     element-copy-out-used-bins
     cast-used-bins
     shl-used-bins
     element-write-used-bins
     shl-result
-    returns-2)
+    returns)

@@ -1,0 +1,2 @@
+-- Coming: how a walk comes further along the chain.
+pub mod Coming
