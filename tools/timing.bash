@@ -1,5 +1,9 @@
-# Read by the tools that time programs. They name the folder for what they make in `made`, and stand in the project's root.
+# Read by the tools that time programs. They name the folder for what they make in `made`, how often they measure in `rounds`, and stand in the
+# project's root.
 mkdir -p "$made"
+
+# with a point in the times that the shell prints
+export LC_ALL=C
 
 # quietly COMMAND...: what it says is shown only if it fails
 quietly() {

@@ -1,6 +1,6 @@
 //! The speed drivers' other half: the same seeded takes and returns that the
-//! Rattle programs `speed_in_place` and `speed_by_value` make, so that all can
-//! be timed, and their sums compared.
+//! Rattle programs `speed_in_place`, `speed_lent` and `speed_by_value` make, so
+//! that all can be timed, and their sums compared.
 
 use std::hint::black_box;
 use std::io::{self, Write};

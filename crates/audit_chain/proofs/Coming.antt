@@ -8,37 +8,24 @@ use native.Mathlib.Omega.{arith}
 use Rattle.tables.specs.Words.{Edition}
 use Rattle.audit_words.specs.declared.Walk.{Walk}
 use Rattle.audit_words.specs.Chain.{goodRegion, advanced, started, walkFrom}
-use Rattle.audit_words.proofs.Turns.{Bounded, walk-turn, walk-bounded}
-use Rattle.audit_chain.specs.Runs.{Within, endFrom, Comes}
+use Rattle.audit_words.specs.Bounded.{Bounded}
+use Rattle.audit_words.proofs.Turns.{walk-turn, walk-bounded}
+use Rattle.audit_chain.specs.Comes.{endFrom, Comes}
 
 module _ (nodes marks : List ℕ) (count size : ℕ) where
   -- before the first step
-  pub comes-nowhere : (w : Walk) → Within count size w → Comes nodes marks count size w w
-  comes-nowhere w h = record { same-end = refl; no-fewer = omega arith; within = h }
+  pub comes-nowhere : (w : Walk) → Bounded count size w → Comes nodes marks count size w w
+  comes-nowhere w h = record { same-end = refl; no-fewer = omega arith; bounded = h }
 
   -- past a good region
   past-it : (start w : Walk) → Comes nodes marks count size start w → w .records < count → goodRegion nodes marks count size w ≡ true
       → Comes nodes marks count size start (advanced nodes w)
   unfolding advanced
-  past-it start w h turn good =
-      let here = h .within in
-      let bounds : Bounded count size w = record {
-        records-low = here .records-within;
-        frees-low = here .frees-within;
-        total-low = here .total-within;
-        offset-low = here .offset-within;
-      } in
-      let past = walk-bounded nodes marks count size w turn good bounds in
-      record {
-        same-end = h .same-end ∙ walk-turn nodes marks count size w turn good;
-        no-fewer = omega (arith, h .no-fewer);
-        within = record {
-          records-within = past .records-low;
-          frees-within = past .frees-low;
-          total-within = past .total-low;
-          offset-within = past .offset-low;
-        };
-      }
+  past-it start w h turn good = record {
+    same-end = h .same-end ∙ walk-turn nodes marks count size w turn good;
+    no-fewer = omega (arith, h .no-fewer);
+    bounded = walk-bounded nodes marks count size w turn good (h .bounded);
+  }
 
   -- to where the code says that it stands then
   pub comes-past : (start w v : Walk) → Comes nodes marks count size start w → w .records < count → goodRegion nodes marks count size w ≡ true
@@ -51,7 +38,7 @@ module _ (nodes marks : List ℕ) (count size : ℕ) where
   comes-on start v w h k = record {
     same-end = h .same-end ∙ k .same-end;
     no-fewer = omega (arith, h .no-fewer, k .no-fewer);
-    within = k .within;
+    bounded = k .bounded;
   }
 
   -- the walk that comes from the first record to where it ends is the whole walk

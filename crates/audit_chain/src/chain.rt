@@ -6,7 +6,8 @@ ghost use Rattle.tables.specs.Layout.{dataSize, neighborNext, word as word-of};
 ghost use Rattle.tables.specs.Calls.{edition32};
 ghost use Rattle.records.specs.InWords.{HasRoom, InTable};
 ghost use Rattle.audit_words.specs.Chain.{startsChain, firstRecord, goodUsed, goodRegion, advanced, walkFrom, started, walkEnds};
-ghost use Rattle.audit_chain.specs.Runs.{Within, Comes};
+ghost use Rattle.audit_words.specs.Bounded.{Bounded};
+ghost use Rattle.audit_chain.specs.Comes.{Comes};
 use answers::Handle;
 use audit_words::Walk;
 use records::nodes;
@@ -123,7 +124,7 @@ fn advance(nodes: &[u32], w: Walk, next: u32) -> Walk
 fn run_on(nodes: &[u32], scratch: &[u32], t: Totals, start: Walk) -> Walk
     requires { ⌜ HasRoom (t .«max_allocs») (now nodes) ⌝ }
     requires { ⌜ t .«max_allocs» ≤ length (now scratch) ⌝ }
-    requires { ⌜ Within (t .«max_allocs») (t .size) start ⌝ }
+    requires { ⌜ Bounded (t .«max_allocs») (t .size) start ⌝ }
     ensures { λ w. ⌜ Comes (now (nodes .entry)) (now (scratch .entry)) (t .«max_allocs») (t .size) start w ⌝ }
 {
     let mut w = start;
@@ -149,7 +150,7 @@ const MANY: u32 = 8;
 fn run_if_likely(nodes: &[u32], scratch: &[u32], t: Totals, w: Walk, in_a_row: u32) -> Walk
     requires { ⌜ HasRoom (t .«max_allocs») (now nodes) ⌝ }
     requires { ⌜ t .«max_allocs» ≤ length (now scratch) ⌝ }
-    requires { ⌜ Within (t .«max_allocs») (t .size) w ⌝ }
+    requires { ⌜ Bounded (t .«max_allocs») (t .size) w ⌝ }
     ensures { λ v. ⌜ Comes (now (nodes .entry)) (now (scratch .entry)) (t .«max_allocs») (t .size) w v ⌝ }
 {
     if in_a_row < MANY {

@@ -20,6 +20,7 @@ use Rattle.audit_words.specs.declared.Along.{Along}
 use Rattle.audit_words.specs.Scratch.{cleared}
 use Rattle.audit_words.specs.Spares.{goodSpare, markFrom}
 use Rattle.audit_words.specs.Chain.{startsChain, firstRecord, goodRegion, advanced, walkFrom}
+use Rattle.audit_words.specs.Bounded.{Bounded}
 use Rattle.audit_words.specs.Lists.{goodMember, nextMember, listFrom, atHead, ended, listsFrom}
 use Rattle.audit_words.specs.Bits.{headBit, leafOf, leavesFrom}
 use Rattle.audit_words.proofs.ChainMet.{is-good}
@@ -69,13 +70,6 @@ module _ (E : Edition) (nodes marks : List ℕ) (count i : ℕ) where
   first-end l = rw (spent count i l)
 
 -- ---- the chain
--- what the walk keeps to, so that no sum of it wraps
-pub record Bounded (count size : ℕ) (w : Walk) : Type 0 where
-  pub records-low : w .records ≤ count
-  pub frees-low : w .frees ≤ w .records
-  pub total-low : w .total ≤ w .offset
-  pub offset-low : w .offset ≤ size
-
 module _ (nodes marks : List ℕ) (count size : ℕ) (w : Walk) where
   pub walk-turn : w .records < count → goodRegion nodes marks count size w ≡ true
       → walkFrom (count - w .records) nodes marks count size w

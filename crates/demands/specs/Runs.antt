@@ -1,5 +1,5 @@
--- Runs of the calls in code, told by what their contracts promise and by nothing else. A call in place and the same call by value promise the
--- same record over the same words, so a step of a run may be either. Assumes nothing.
+-- Runs of the calls in code, told by what their contracts promise and by nothing else. A call in place, with the head lent whole or not, and the same
+-- call by value promise the same record over the same words, so a step of a run may be any of them. Assumes nothing.
 use mathlib.Core.Path.{_≡_}
 use mathlib.Core.List.{List, [], _∷_, _++_, map}
 use Prim.Native.Nat.{ℕ, _^_, _<_}

@@ -1,4 +1,4 @@
-// What is drawn and what came of it so far, the same in both forms of the calls.
+// What is drawn and what came of it so far, the same in every form of the calls.
 use answers::TakeAnswer;
 
 // As often a take as a return, by the toss of a coin; what goes back is drawn.

@@ -3,7 +3,7 @@
 // Private to the allocator, though Rattle has no word for that: the room that is required here the gate has tested.
 ghost use mathlib.Core.Path.{_≡_};
 ghost use mathlib.Core.Bool.{cond};
-ghost use Prim.Native.Nat.{_≤_, _<_};
+ghost use Prim.Native.Nat.{_≤_};
 ghost use mathlib.Core.List.{[]};
 ghost use lib.Dec.{eqb};
 ghost use lib.ListN.{length as length-of, getD};
@@ -147,10 +147,10 @@ fn searched_from(size: Size) -> RoundedUp
 }
 
 // A size without a class is served by no region: nothing is looked for, and the refusal is that of spares or that of fit.
-fn without_class(spares: u32) -> Refusal
-    ensures { λ why. ⌜ numberOf why ≡ cond (eqb spares 0) 3 4 ⌝ }
+fn without_class(free_offset: u32) -> Refusal
+    ensures { λ why. ⌜ numberOf why ≡ cond (eqb «free_offset» 0) 3 4 ⌝ }
 {
-    if spares == 0 {
+    if free_offset == 0 {
         return Refusal::NoSpareRecord;
     }
     Refusal::NoRegion

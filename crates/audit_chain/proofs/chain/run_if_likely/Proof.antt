@@ -1,6 +1,5 @@
 -- Not a step, or a run. Assumes nothing.
 use Rattle.audit_chain.proofs.Coming.{comes-nowhere}
-use borrow.Author.Needs.{needs}
 use Rattle.audit_chain.proofs.chain.run_if_likely.Statement.{statement}
 use Rattle.audit_chain.proofs.chain.run_if_likely.Tie as tie
 

@@ -5,7 +5,7 @@ use borrow.Author.Tests.{not-false}
 use Rattle.audit_words.specs.declared.Walk.{Walk}
 use Rattle.audit_words.specs.Chain.{advanced}
 use Rattle.audit_words.proofs.ChainMet.{is-good}
-use Rattle.audit_chain.specs.Runs.{Comes}
+use Rattle.audit_chain.specs.Comes.{Comes}
 use Rattle.audit_chain.proofs.Coming.{comes-nowhere, comes-past}
 use native.Mathlib.Omega.{arith}
 use Rattle.audit_chain.proofs.chain.run_on.Statement.{statement}
@@ -21,7 +21,7 @@ loop-holds : tie.Need-loop-holds Inv-loop μ-loop
 loop-holds c = comes-nowhere _ _ _ _ _ (c .before .before .pre .1 .1)
 
 good-region-requires : tie.Need-good-region-requires Inv-loop μ-loop
-good-region-requires c κs = (omega arith, (omega arith, c .before .before .before .loop .inv .within .offset-within))
+good-region-requires c κs = (omega arith, (omega arith, c .before .before .before .loop .inv .bounded .offset-low))
 
 returns : tie.Need-returns Inv-loop μ-loop
 returns c = c .before .before .before .before .before .loop .inv
@@ -45,10 +45,10 @@ advance-requires c κs =
     let good = is-good _ _ _ _ _ (sym (tested .good-region .ensures) ∙ not-false _ (c .before .before .before .if2 .left)) in
     let turn = tested .before .if1 .taken in
     let so-far = tested .before .before .before .before .loop in
-    let bounds = so-far .inv .within in
+    let bounds = so-far .inv .bounded in
     let linked : c .before .next-of .result ≡ so-far .w .here + 1 = omega (arith, c .if3 .left) in (
       omega (arith, good .low),
-      (omega (arith, turn), (bounds .frees-within, (bounds .total-within, (omega (arith, good .inside), sym linked ∙ c .before .next-of .ensures)))),
+      (omega (arith, turn), (bounds .frees-low, (bounds .total-low, (omega (arith, good .inside), sym linked ∙ c .before .next-of .ensures)))),
     )
 
 loop-less : tie.Need-loop-less Inv-loop μ-loop

@@ -7,7 +7,7 @@ use Rattle.audit_words.specs.declared.Walk.{Walk}
 use Rattle.audit_words.specs.Chain.{started, advanced}
 use Rattle.audit_words.proofs.ChainMet.{is-good}
 use Rattle.audit_words.proofs.Turns.{walk-stop, walk-end}
-use Rattle.audit_chain.specs.Runs.{Comes}
+use Rattle.audit_chain.specs.Comes.{Comes}
 use Rattle.audit_chain.proofs.Coming.{comes-nowhere, comes-past, comes-on, comes-to-end}
 use native.Mathlib.Omega.{arith}
 use Rattle.audit_chain.proofs.chain.walk_from.Statement.{statement}
@@ -24,19 +24,19 @@ abbrev μ-loop : tie.MeasureT-loop
 loop-holds : tie.Need-loop-holds Inv-loop μ-loop
 loop-holds c = (
   comes-nowhere _ _ _ _ _
-      (record { records-within = omega arith; frees-within = omega arith; total-within = omega arith; offset-within = omega arith }),
+      (record { records-low = omega arith; frees-low = omega arith; total-low = omega arith; offset-low = omega arith }),
   omega arith,
 )
 
 good-region-requires : tie.Need-good-region-requires Inv-loop μ-loop
-good-region-requires c κs = (omega arith, (omega arith, c .before .before .before .loop .inv .0 .within .offset-within))
+good-region-requires c κs = (omega arith, (omega arith, c .before .before .before .loop .inv .0 .bounded .offset-low))
 
 returns : tie.Need-returns Inv-loop μ-loop
 returns c =
     let so-far = c .before .before .before .before .before .loop .inv .0 in
     let bad = sym (c .before .good-region .ensures) ∙ not-true _ (c .if2 .taken) in (
       comes-to-end _ _ _ _ edition32 _ _ so-far (walk-stop _ _ _ _ _ (c .before .before .if1 .taken) bad),
-      so-far .within .records-within,
+      so-far .bounded .records-low,
     )
 
 add-follows : tie.Need-add-follows Inv-loop μ-loop
@@ -58,11 +58,11 @@ advance-requires : tie.Need-advance-requires Inv-loop μ-loop
 advance-requires c κs =
     let tested = c .before .before .before .before in
     let good = is-good _ _ _ _ _ (sym (tested .good-region .ensures) ∙ not-false _ (c .before .before .before .if2 .left)) in
-    let bounds = tested .before .before .before .before .loop .inv .0 .within in (
+    let bounds = tested .before .before .before .before .loop .inv .0 .bounded in (
       omega (arith, good .low),
       (
         omega (arith, tested .before .if1 .taken),
-        (bounds .frees-within, (bounds .total-within, (omega (arith, good .inside), c .before .next-of .ensures))),
+        (bounds .frees-low, (bounds .total-low, (omega (arith, good .inside), c .before .next-of .ensures))),
       ),
     )
 
@@ -72,7 +72,7 @@ run-if-likely-requires c κs =
     let good = sym (tested .good-region .ensures) ∙ not-false _ (c .before .before .before .before .if2 .left) in
     let so-far = tested .before .before .before .before .loop .inv .0 in
     let past = comes-past _ _ _ _ _ _ _ so-far (tested .before .if1 .taken) good (c .advance .ensures) in
-    (omega arith, (omega arith, past .within))
+    (omega arith, (omega arith, past .bounded))
 
 loop-less : tie.Need-loop-less Inv-loop μ-loop
 unfolding advanced
@@ -100,7 +100,7 @@ returns-2 : tie.Need-returns-2 Inv-loop μ-loop
 returns-2 c =
     let so-far = c .before .before .before .loop .inv .0 in (
       comes-to-end _ _ _ _ edition32 _ _ so-far (walk-end _ _ _ _ _ (c .if1 .left)),
-      so-far .within .records-within,
+      so-far .bounded .records-low,
     )
 
 pub walk-from-spec : {M : Type 1} → statement M

@@ -1,16 +1,11 @@
 -- A shift of 1 is a power of two, so the code sets just the two bits. Assumes nothing.
-use Prim.Native.Nat.{ℕ, _*_, _/_, _%_, _^_, _<_}
-use mathlib.Core.Path.{_≡_, refl, _∙_}
-use native.Mathlib.Nat.{one-mul}
-use lib.Pow.{shl-exact}
+use Prim.Native.Nat.{_/_, _%_, _<_}
+use mathlib.Core.Path.{refl}
 use native.Mathlib.Omega.{arith}
+use Rattle.bitmap.proofs.Shifted.{shl-one}
 use borrow.Author.Needs.{needs}
 use Rattle.bitmap.proofs.bits.mark.Statement.{statement}
 use Rattle.bitmap.proofs.bits.mark.Tie as tie
-
--- 1 << k at a width of n bits
-shl-one : (n k : ℕ) → k < n → (1 * 2 ^ k) % 2 ^ n ≡ 2 ^ k
-shl-one n k h = shl-exact {a = 1} 1 k n (omega arith) (omega arith) ∙ one-mul (2 ^ k)
 
 cast-i : tie.Need-cast-i
 cast-i c = search needs

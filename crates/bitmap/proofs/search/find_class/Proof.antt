@@ -1,5 +1,5 @@
 -- The code is `findClass`. Assumes nothing.
-use mathlib.Core.Path.{_≡_, refl, sym, _∙_}
+use mathlib.Core.Path.{refl, sym, _∙_}
 use Prim.Native.Nat.{_%_, _<_}
 use native.Mathlib.Omega.{arith}
 use borrow.Author.Tests.{lt-ltb}
@@ -49,8 +49,8 @@ returns-2 c =
     let read = tested .before in
     let a = read .before .before .args in
     let some = sym (tested .none-from .ensures) ∙ c .before .if1 .left in
-    let in-leaf : c .lowest-bit-set-from .result < 8 =
-    omega (arith, c .lowest-bit-set-from .ensures .0, low-below 8 (read .wide .result) (a .c .0 % 8) (omega arith) (omega arith) (read .wide .ensures .1) some) in
+    let low = low-below 8 (read .wide .result) (a .c .0 % 8) (omega arith) (omega arith) (read .wide .ensures .1) some in
+    let in-leaf : c .lowest-bit-set-from .result < 8 = omega (arith, c .lowest-bit-set-from .ensures .0, low) in
     rw (← (read .wide .ensures .0), ← (c .lowest-bit-set-from .ensures .0), lt-ltb _ _ in-leaf) (refl, omega (arith, in-leaf))
 
 pub find-class-spec : {M : Type 1} → statement M

@@ -4,13 +4,7 @@ use mathlib.Core.List.{List}
 use Prim.Native.Nat.{ℕ, _-_, _≤_}
 use Rattle.audit_words.specs.declared.Walk.{Walk}
 use Rattle.audit_words.specs.Chain.{walkFrom}
-
--- what a walk has counted stays within the count of records and the size of the store, so that no sum of it wraps
-pub record Within (count size : ℕ) (w : Walk) : Type 0 where
-  pub records-within : w .records ≤ count
-  pub frees-within : w .frees ≤ w .records
-  pub total-within : w .total ≤ w .offset
-  pub offset-within : w .offset ≤ size
+use Rattle.audit_words.specs.Bounded.{Bounded}
 
 module _ (nodes marks : List ℕ) (count size : ℕ) where
   -- where the walk that stands at w ends: it goes at most as many regions on as records are left to be met
@@ -22,4 +16,4 @@ module _ (nodes marks : List ℕ) (count size : ℕ) where
     -- it is one walk: from w on it ends where it ends from start on
     pub same-end : endFrom start ≡ endFrom w
     pub no-fewer : start .records ≤ w .records
-    pub within : Within count size w
+    pub bounded : Bounded count size w
