@@ -1,8 +1,12 @@
 //! Runs the crate offset-allocator and writes down what it answers: a list for
 //! each command, the same bytes on every run.
 
+mod binary32;
 mod classes;
 mod damaged;
+mod gauge;
+mod gauge_rows;
+mod gauges;
 mod history;
 mod journal;
 mod journal_cases;
@@ -61,7 +65,9 @@ usage: oracle COMMAND
   packet-cases lines
                  what a program must print for each
   packets-speed TURNS
-                 the time of a packet's turns beside the bare calls and copies";
+                 the time of a packet's turns beside the bare calls and copies
+  gauges         readings of a fill gauge, each with its answer and the gauge after it
+  gauges N       N readings and more, for a pipe";
 
 fn main() -> ExitCode {
     let arguments: Vec<String> = std::env::args().skip(1).collect();
@@ -112,6 +118,8 @@ fn write(out: &mut impl Write, arguments: &[&str]) -> Option<io::Result<()>> {
         ["packet-cases"] => packet_cases::write(out),
         ["packet-cases", "lines"] => packet_cases::write_lines(out),
         ["packets-speed", turns] => packet_speed::write(out, number(turns)?),
+        ["gauges"] => gauges::write(out),
+        ["gauges", readings] => gauges::write_long(out, number(readings)?),
         _ => return None,
     })
 }

@@ -22,10 +22,12 @@ use Rattle.answers.specs.declared.ReportAnswer.the-variants as report
 use Rattle.answers.specs.declared.FullOutcome.{FullOutcome}
 use Rattle.answers.specs.declared.FullOutcome.the-variants as full
 use Rattle.answers.specs.declared.FullAnswer.{FullAnswer}
+use Rattle.answers.specs.declared.FillAnswer.{FillAnswer}
+use Rattle.answers.specs.declared.FillAnswer.the-variants as fill
 use Rattle.answers.specs.declared.AuditAnswer.{AuditAnswer}
 use Rattle.answers.specs.declared.AuditAnswer.the-variants as audit
 use Rattle.answers.specs.Refusals.{numberOf}
-use Rattle.answers.specs.Answers.{startSays, takeSays, backSays, sizeSays, reportSays, auditSays}
+use Rattle.answers.specs.Answers.{startSays, takeSays, backSays, sizeSays, reportSays, fillSays, auditSays}
 use Rattle.answers.specs.Answers.{columns, outcomeSays, fullSays, AllPlaces, ZeroIfRefused, FiguresOfZero}
 use Rattle.answers.specs.OneValue.{OneValue}
 use Rattle.answers.proofs.Numbers.{number-means}
@@ -69,6 +71,15 @@ of-report (report.Report r) (report.Report q) e =
 of-report (report.Report r) (report.Refused why) e = clash (cc)
 of-report (report.Refused why) (report.Report q) e = clash (cc)
 of-report (report.Refused why) (report.Refused other) e = ap report.Refused (same-refusal why other e)
+
+of-fill : (a b : FillAnswer) → fillSays a ≡ fillSays b → a ≡ b
+of-fill (fill.Told f) (fill.Told g) e =
+    let units : f .live .0 ≡ g .live .0 = cc in
+    let fills : f .fill ≡ g .fill = cc in
+    ap fill.Told (λ i. record { live = record { 0 = units i }; fill = fills i })
+of-fill (fill.Told f) (fill.Refused why) e = clash (cc)
+of-fill (fill.Refused why) (fill.Told g) e = clash (cc)
+of-fill (fill.Refused why) (fill.Refused other) e = ap fill.Refused (same-refusal why other e)
 
 of-audit : (a b : AuditAnswer) → auditSays a ≡ auditSays b → a ≡ b
 of-audit audit.Sound audit.Sound e = refl
@@ -126,6 +137,7 @@ one-value = record {
   of-back = of-back;
   of-size = of-size;
   of-report = of-report;
+  of-fill = of-fill;
   of-audit = of-audit;
   of-full = of-full;
 }

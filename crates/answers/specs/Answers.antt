@@ -18,6 +18,8 @@ use Rattle.answers.specs.declared.ReportAnswer.the-variants as report
 use Rattle.answers.specs.declared.FullOutcome.{FullOutcome}
 use Rattle.answers.specs.declared.FullOutcome.the-variants as full
 use Rattle.answers.specs.declared.FullAnswer.{FullAnswer}
+use Rattle.answers.specs.declared.FillAnswer.{FillAnswer}
+use Rattle.answers.specs.declared.FillAnswer.the-variants as fill
 use Rattle.answers.specs.declared.AuditAnswer.{AuditAnswer}
 use Rattle.answers.specs.declared.AuditAnswer.the-variants as audit
 use Rattle.answers.specs.Refusals.{numberOf}
@@ -41,6 +43,10 @@ sizeSays (size.Refused why) = refused (numberOf why)
 abbrev pub reportSays : ReportAnswer → Answer
 reportSays (report.Report r) = reported (r .«total_free_space» .0) (r .«largest_free_region» .0)
 reportSays (report.Refused why) = refused (numberOf why)
+
+abbrev pub fillSays : FillAnswer → Answer
+fillSays (fill.Told f) = reported (f .live .0) (f .fill)
+fillSays (fill.Refused why) = refused (numberOf why)
 
 -- ---- the full report: value and count of each class from 0 to 255
 abbrev pub columns : (sizes counts : List ℕ) → List (ℕ × ℕ)

@@ -5,7 +5,7 @@
 ghost use mathlib.Core.Path.{_≡_};
 ghost use Rattle.ledger.specs.Figures.{refusalOf};
 ghost use Rattle.answers.specs.Refusals.{numberOf};
-ghost use Rattle.answers.specs.Answers.{takeSays, backSays, startSays, sizeSays, reportSays, fullSays, auditSays};
+ghost use Rattle.answers.specs.Answers.{takeSays, backSays, startSays, sizeSays, reportSays, fullSays, fillSays, auditSays};
 use small_float::Size;
 
 // A record number that was given out. A handle, a class and a size are three types, so that one cannot stand for another.
@@ -169,6 +169,30 @@ impl FullAnswer {
         match outcome {
             FullOutcome::Counted => 0,
             FullOutcome::Refused(why) => why.number(),
+        }
+    }
+}
+
+// How full the store is: the live lengths summed, and how many of 256 equal parts of the store they fill, rounded down.
+pub struct Fill {
+    pub live: Size,
+    pub fill: u16,
+}
+
+// The fill.
+pub enum FillAnswer {
+    Told(Fill),
+    Refused(Refusal),
+}
+
+impl FillAnswer {
+    pub fn number(self) -> u32
+        ensures { λ n. ⌜ n ≡ refusalOf (fillSays self) ⌝ }
+    {
+        let answer = self;
+        match answer {
+            FillAnswer::Told(_) => 0,
+            FillAnswer::Refused(why) => why.number(),
         }
     }
 }

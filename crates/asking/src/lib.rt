@@ -1,12 +1,13 @@
-// The questions: `allocation_size`, `storage_report` and `storage_report_full` of the Rust, in place. Nothing is written.
+// The questions: `allocation_size`, `storage_report` and `storage_report_full` of the Rust, and how full the store is, in place. Nothing is written.
 //
 // Each is lent all that the other calls are lent, to be read.
-ghost use Rattle.ledger.specs.Calls.{SizeOf, Report, FullReport};
+ghost use Rattle.ledger.specs.Calls.{SizeOf, Report, FullReport, Fill};
 ghost use Rattle.answers.specs.Asked.{tokenOf};
 ghost use Rattle.records.specs.InWords.{wordsOf};
-ghost use Rattle.answers.specs.Answers.{sizeSays, reportSays, fullSays, FiguresOfZero, AllPlaces};
+ghost use Rattle.answers.specs.Answers.{sizeSays, reportSays, fullSays, fillSays, FiguresOfZero, AllPlaces};
 ghost use Rattle.asking.specs.Answers.{Asked};
 use answers::Allocation;
+use answers::FillAnswer;
 use answers::FullAnswer;
 use answers::Refusal;
 use answers::ReportAnswer;
@@ -16,6 +17,7 @@ use records::nodes;
 use records::totals::Totals;
 use small_float::Size;
 
+mod fullness;
 mod report;
 
 // The length of a live span.
@@ -78,5 +80,22 @@ pub fn storage_report_full(
     match records::gate::test(t.max_allocs, nodes, free_nodes, Refusal::Unsound) {
         Gate::Shut(why) => full_report::refuse(why),
         Gate::Open => full_report::count(t, bin_indices, nodes),
+    }
+}
+
+// The live lengths summed, and how many of 256 equal parts of the store they fill.
+pub fn fill(
+    t: Totals,
+    bin_indices: &[u32; 256],
+    used_bins: &[u8; 32],
+    nodes: &[u32],
+    free_nodes: &[u32],
+) -> FillAnswer
+    ensures { λ a. ⌜ Asked (fillSays a) Fill
+        (wordsOf t (now («bin_indices» .entry)) (now («used_bins» .entry)) (now (nodes .entry)) (now («free_nodes» .entry))) ⌝ }
+{
+    match records::gate::test(t.max_allocs, nodes, free_nodes, Refusal::Unsound) {
+        Gate::Shut(why) => FillAnswer::Refused(why),
+        Gate::Open => fullness::fullness(t),
     }
 }

@@ -2,8 +2,8 @@
 // the bar is drawn when the region is live no more, or the journal ends.
 ghost use Prim.Native.Nat.{_<_, _≤_};
 use crate::frame;
-use crate::svg;
-use crate::svg::Area;
+use pictures::svg;
+use pictures::svg::Area;
 use records::nodes::DATA_SIZE;
 use records::nodes::USED;
 

@@ -1,15 +1,15 @@
 // The calls made one after the other on tables for 1,024 records, and a column drawn for each.
 use crate::bars;
 use crate::bars::End;
-use crate::counting;
 use crate::frame;
-use crate::svg;
-use crate::svg::Area;
+use crate::widths;
 use answers::Allocation;
 use answers::Refusal;
 use calls::Answer;
 use calls::Call;
 use journal::entry::Entry;
+use pictures::svg;
+use pictures::svg::Area;
 use records::totals::Totals;
 
 // How many bytes wait, the number of the column and where it begins, how wide columns are, the size of the store before the call, and whether a
@@ -49,7 +49,7 @@ impl Sheet {
 
     // Wide columns are parted by a gap; bars run across it.
     fn parted(self) -> u32 {
-        if self.width < counting::WIDE {
+        if self.width < widths::WIDE {
             return self.width;
         }
         svg::minus(self.width, 1)
@@ -110,7 +110,7 @@ impl Sheet {
     }
 
     fn below(self, call: Call, out: &mut [u8; 65536]) -> Sheet {
-        if self.width < counting::WIDE {
+        if self.width < widths::WIDE {
             return self.column_number(out);
         }
         self.call_text(call, out)
@@ -255,7 +255,7 @@ pub fn draw_all(waiting: usize, calls: u32, bytes: &[u8], out: &mut [u8; 65536])
         waiting,
         column: 0,
         x: frame::LEFT,
-        width: counting::column_width(calls),
+        width: widths::column_width(calls),
         size: 0,
         scaled: false,
     };

@@ -1,8 +1,8 @@
 // What stands around the columns: the size of the sheet, its title and a scale of offsets.
-use crate::counting;
-use crate::counting::Counted;
-use crate::counting::Ending;
-use crate::svg;
+use crate::widths;
+use pictures::counting::Counted;
+use pictures::heading;
+use pictures::svg;
 
 // Where the store begins, and how long it is drawn.
 pub const LEFT: u32 = 84;
@@ -67,7 +67,7 @@ fn style(waiting: usize, out: &mut [u8; 65536]) -> usize {
 
 // The title wants some width, however few the calls are.
 fn sheet_width(calls: u32) -> u32 {
-    let width = svg::plus(counting::columns_width(calls), LEFT + 30);
+    let width = svg::plus(widths::columns_width(calls), LEFT + 30);
     if width < 740 {
         return 740;
     }
@@ -76,7 +76,7 @@ fn sheet_width(calls: u32) -> u32 {
 
 // Calls' texts stand below columns that are wide enough.
 fn sheet_height(calls: u32) -> u32 {
-    if counting::column_width(calls) < counting::WIDE {
+    if widths::column_width(calls) < widths::WIDE {
         return 630;
     }
     770
@@ -95,47 +95,10 @@ fn open_sheet(calls: u32, out: &mut [u8; 65536]) -> usize {
     )
 }
 
-// How many calls are drawn, and whether that is all.
-fn title(waiting: usize, calls: u32, ending: Ending, out: &mut [u8; 65536]) -> usize {
+fn title(waiting: usize, counted: Counted, out: &mut [u8; 65536]) -> usize {
     let opened = svg::open_text(waiting, b"title", 16, 2600, out);
-    match ending {
-        Ending::Whole => counted(opened, b"A journal of ", calls, b" calls", out),
-        Ending::Broke(_) => counted(
-            opened,
-            b"A journal of ",
-            calls,
-            b" calls, and a record that is refused as ",
-            out,
-        ),
-        Ending::GoesOn => counted(
-            opened,
-            b"The first ",
-            calls,
-            b" calls of a longer journal",
-            out,
-        ),
-    }
-}
-
-fn counted(
-    waiting: usize,
-    before: &[u8],
-    calls: u32,
-    behind: &[u8],
-    out: &mut [u8; 65536],
-) -> usize {
-    let begun = journal_lines::put(waiting, before, out);
-    let told = journal_lines::number(begun, calls as u64, out);
-    journal_lines::put(told, behind, out)
-}
-
-// The title ends; where the journal breaks off, with the reason.
-fn close_title(waiting: usize, ending: Ending, out: &mut [u8; 65536]) -> usize {
-    match ending {
-        Ending::Whole => svg::close_text(waiting, out),
-        Ending::Broke(why) => svg::close_text(journal_lines::broken(waiting, why, out), out),
-        Ending::GoesOn => svg::close_text(waiting, out),
-    }
+    let told = heading::put(opened, counted, out);
+    svg::close_text(told, out)
 }
 
 fn note(waiting: usize, text: &[u8], y: u32, out: &mut [u8; 65536]) -> usize {
@@ -146,10 +109,8 @@ fn note(waiting: usize, text: &[u8], y: u32, out: &mut [u8; 65536]) -> usize {
 
 // All but the columns; how many bytes wait.
 pub fn begin(counted: Counted, out: &mut [u8; 65536]) -> usize {
-    let ending = counted.ending;
     let opened = open_sheet(counted.calls, out);
-    let titled = title(opened, counted.calls, ending, out);
-    let closed = close_title(titled, ending, out);
+    let closed = title(opened, counted, out);
     let columns = note(
         closed,
         b"A column is the store after a call, from offset 0 at the top down to its size; the scale is the first store's.",

@@ -1,12 +1,12 @@
-// Draws the journal on standard input as an SVG of the store over its calls, a column a call: `counting` says how many calls there are to draw, `columns`
-// draws them one after the other, `bars` the live regions, `frame` what stands around them, and `svg` has the elements that all of these are made of.
+// Draws the journal on standard input as an SVG of the store over its calls, a column a call: `columns` draws them one after the other, `widths` says how
+// wide, `bars` draws the live regions, `frame` what stands around them. How many calls there are to draw, and the elements of an SVG, are in pictures.
 mod bars;
 mod columns;
-mod counting;
 mod frame;
-mod svg;
+mod widths;
 
 use libc::STDIN_FILENO;
+use pictures::counting;
 
 // The bytes of a journal, the first of them if it has more than the picture can show.
 fn draw(bytes: &[u8], out: &mut [u8; 65536]) {

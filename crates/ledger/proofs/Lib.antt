@@ -24,6 +24,7 @@ pub mod Returns
 pub mod ReportRule
 pub mod Strikes
 pub mod History
+pub mod Fills
 pub mod Undo
 pub mod Stretch
 pub mod ByClass

@@ -7,7 +7,7 @@ use mathlib.Core.List.{List, [], _∷_, map}
 use lib.ListN.{length, length-map}
 use Rattle.basics.proofs.Clash.{clash}
 use Rattle.ledger.specs.Ledger.{Engine, Ledger, Stacks, by-class, refused, numbersFrom, fullAt, fullOf, sizeOf}
-use Rattle.ledger.specs.Calls.{Question, SizeOf, Report, FullReport, figuresTold, Token, Ask, spanOf, QuestionsDiffer, told}
+use Rattle.ledger.specs.Calls.{Question, SizeOf, Report, FullReport, Fill, figuresTold, Token, Ask, spanOf, QuestionsDiffer, told}
 use Rattle.ledger.specs.Figures.{inARow, figuresOf}
 use Rattle.ledger.specs.WellFormed.{WellFormed}
 use Rattle.ledger.specs.Claims.{CanRefuse, unknown, unknown-there}
@@ -20,20 +20,23 @@ unfoldable pub spanAsked : Question → Token
 spanAsked (SizeOf span) = span
 spanAsked Report = spanOf 0 0
 spanAsked FullReport = spanOf 0 0
+spanAsked Fill = spanOf 0 0
 
 unfoldable numberAsked : Question → ℕ
 numberAsked (SizeOf span) = 0
 numberAsked Report = 1
 numberAsked FullReport = 2
+numberAsked Fill = 3
 
-pub every-question : (q : Question) → ((span : Token) × (q ≡ SizeOf span)) ⊎ ((q ≡ Report) ⊎ (q ≡ FullReport))
+pub every-question : (q : Question) → ((span : Token) × (q ≡ SizeOf span)) ⊎ ((q ≡ Report) ⊎ ((q ≡ FullReport) ⊎ (q ≡ Fill)))
 every-question (SizeOf span) = inl (span, refl)
 every-question Report = inr (inl refl)
-every-question FullReport = inr (inr refl)
+every-question FullReport = inr (inr (inl refl))
+every-question Fill = inr (inr (inr refl))
 
 pub questions-differ : QuestionsDiffer
 unfolding numberAsked
-questions-differ e = absurd (omega (arith, ap numberAsked e))
+questions-differ = (λ e. absurd (omega (arith, ap numberAsked e)), λ e. absurd (omega (arith, ap numberAsked e)), λ e. absurd (omega (arith, ap numberAsked e)))
 
 -- ---- what a ledger in order answers
 module _ (E : Engine) (size count : ℕ) where
@@ -48,6 +51,7 @@ module _ (E : Engine) (size count : ℕ) where
       go (is-live n before after b p e q) = clash (cc)
   told-refused Report k l w x = clash (cc)
   told-refused FullReport k l w x = clash (cc)
+  told-refused Fill k l w x = clash (cc)
 
 in-a-row : (rows : List (ℕ × ℕ)) → length (inARow rows) ≡ length rows + length rows
 unfolding inARow
@@ -65,6 +69,7 @@ module _ (size count : ℕ) where
       go (is-elsewhere n before after b p e q) = rw q
       go (is-live n before after b p e q) = rw q
   told-figures Report l w = refl
+  told-figures Fill l w = refl
   told-figures FullReport l w = omega (
     arith,
     in-a-row (map (fullAt (l .index)) (numbersFrom 0 256)),

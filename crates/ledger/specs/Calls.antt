@@ -4,6 +4,7 @@ use Prim.Native.Nat.{ℕ}
 use mathlib.Core.Logic.{_⊎_, _≢_}
 use mathlib.Core.List.{List, [], _∷_, _++_, map}
 use Rattle.ledger.specs.Ledger.{Engine, Ledger, Answer, done, reported, classes, setup, take, handBack, sizeOf, report, fullReport}
+use Rattle.ledger.specs.Fill.{liveUnits, fillOf}
 
 -- what a take asks for
 pub record Request : Type 0 where
@@ -19,12 +20,14 @@ pub data Question : Type 0 where
   SizeOf : Token → Question
   Report : Question
   FullReport : Question
+  Fill : Question
 
--- how many figures a question returns: a length, the report's two, a value and a number for each class from 0 to 255
+-- how many figures a question returns: a length, the report's two, a value and a number for each class from 0 to 255, the live units and the fill
 abbrev pub figuresTold : Question → ℕ
 figuresTold (SizeOf span) = 1
 figuresTold Report = 2
 figuresTold FullReport = 512
+figuresTold Fill = 2
 
 pub data Call : Type 0 where
   Take : Request → Call
@@ -48,7 +51,7 @@ asks-size o r = Ask (SizeOf (spanOf o r))
 
 -- no two questions that name no span are one
 abbrev pub QuestionsDiffer : Type 0
-QuestionsDiffer = Report ≢ FullReport
+QuestionsDiffer = (Report ≢ FullReport) × (Report ≢ Fill) × (FullReport ≢ Fill)
 
 -- what a call holds, told from the other side: each is one of these, and no size, no offset and no record that it names is lost.
 -- proofs/RunsMean.antt makes it
@@ -56,7 +59,7 @@ pub record CallsMean : Type 0 where
   pub every-call : (c : Call)
       → ((s : ℕ) × (c ≡ takes s))
       ⊎ (((span : Token) × (c ≡ HandBack span)) ⊎ ((c ≡ Reset) ⊎ ((q : Question) × (c ≡ Ask q))))
-  pub every-question : (q : Question) → ((span : Token) × (q ≡ SizeOf span)) ⊎ ((q ≡ Report) ⊎ (q ≡ FullReport))
+  pub every-question : (q : Question) → ((span : Token) × (q ≡ SizeOf span)) ⊎ ((q ≡ Report) ⊎ ((q ≡ FullReport) ⊎ (q ≡ Fill)))
   pub every-span : (span : Token) → (o : ℕ) × ((r : ℕ) × (span ≡ spanOf o r))
   pub one-size : (s t : ℕ) → takes s ≡ takes t → s ≡ t
   pub one-span : (s t : Token) → HandBack s ≡ HandBack t → s ≡ t
@@ -81,10 +84,11 @@ handsBack E span l = handBack E (span .offset) (span .number) l
 -- a store set up with this size and this count of records, under this engine
 module _ (E : Engine) (size count : ℕ) where
   unfoldable pub told : Question → Ledger (E .Index) → Answer
-  unfolding sizeOf report
+  unfolding sizeOf report fillOf
   told (SizeOf span) l = sizeOf (span .offset) (span .number) l
   told Report l = reported (report E l .0) (report E l .1)
   told FullReport l = classes (fullReport E l)
+  told Fill l = reported (liveUnits l) (fillOf (liveUnits l) size)
 
   -- the answer, and the ledger after it
   unfoldable pub answer : Call → Ledger (E .Index) → Answer × Ledger (E .Index)

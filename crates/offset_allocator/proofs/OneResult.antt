@@ -49,6 +49,7 @@ one-result-in E F fixed = record {
   of-size = λ q w a b p r. one-value .of-size a b (answers-same E p r);
   of-report = λ q w a b p r. one-value .of-report a b (answers-same E p r);
   of-full = λ q w a b l m z y p r. one-value .of-full a b l m z y (answers-same E p r);
+  of-fill = λ q w a b p r. one-value .of-fill a b (answers-same E p r);
   of-audit = λ w scratch left other a b p q. (
     one-value .of-audit a b (ap (λ (x : Answer × List ℕ). x .0) (p .exact ∙ sym (q .exact))),
     ap (λ (x : Answer × List ℕ). x .1) (p .exact ∙ sym (q .exact)),

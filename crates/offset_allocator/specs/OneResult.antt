@@ -14,8 +14,9 @@ use Rattle.answers.specs.declared.BackAnswer.{BackAnswer}
 use Rattle.answers.specs.declared.SizeAnswer.{SizeAnswer}
 use Rattle.answers.specs.declared.ReportAnswer.{ReportAnswer}
 use Rattle.answers.specs.declared.FullAnswer.{FullAnswer}
+use Rattle.answers.specs.declared.FillAnswer.{FillAnswer}
 use Rattle.answers.specs.declared.AuditAnswer.{AuditAnswer}
-use Rattle.answers.specs.Answers.{startSays, takeSays, backSays, sizeSays, reportSays, fullSays, AllPlaces, FiguresOfZero, auditSays}
+use Rattle.answers.specs.Answers.{startSays, takeSays, backSays, sizeSays, reportSays, fillSays, fullSays, AllPlaces, FiguresOfZero, auditSays}
 use Rattle.records.specs.declared.totals.Totals.{Totals}
 use Rattle.records.specs.InWords.{wordsOf}
 use Rattle.offset_allocator.specs.declared.head.Head.{Head}
@@ -61,5 +62,7 @@ pub record OneResult (E : Edition) (F : Form) : Type 0 where
       → Promise E (Ask q) w w (reportSays b) → a ≡ b
   pub of-full : (q : Question) (w : Words) (a b : FullAnswer) → AllPlaces a → AllPlaces b → FiguresOfZero a → FiguresOfZero b
       → Promise E (Ask q) w w (fullSays a) → Promise E (Ask q) w w (fullSays b) → a ≡ b
+  pub of-fill : (q : Question) (w : Words) (a b : FillAnswer) → Promise E (Ask q) w w (fillSays a) → Promise E (Ask q) w w (fillSays b)
+      → a ≡ b
   pub of-audit : (w : Words) (scratch left other : List ℕ) (a b : AuditAnswer) → AuditPromise E w scratch left (auditSays a)
       → AuditPromise E w scratch other (auditSays b) → (a ≡ b) × (left ≡ other)

@@ -1,11 +1,12 @@
 // The questions, with the head by value. They write nothing, so the head does not come back.
-ghost use Rattle.ledger.specs.Calls.{SizeOf, Report, FullReport};
+ghost use Rattle.ledger.specs.Calls.{SizeOf, Report, FullReport, Fill};
 ghost use Rattle.answers.specs.Asked.{tokenOf};
-ghost use Rattle.answers.specs.Answers.{sizeSays, reportSays, fullSays, FiguresOfZero, AllPlaces};
+ghost use Rattle.answers.specs.Answers.{sizeSays, reportSays, fullSays, fillSays, FiguresOfZero, AllPlaces};
 ghost use Rattle.asking.specs.Answers.{Asked};
 ghost use Rattle.offset_allocator.specs.HeadWords.{headWords};
 use crate::head::Head;
 use answers::Allocation;
+use answers::FillAnswer;
 use answers::FullAnswer;
 use answers::ReportAnswer;
 use answers::SizeAnswer;
@@ -41,5 +42,15 @@ impl Head {
         let bin_indices = self.bin_indices;
         let used_bins = self.used_bins;
         asking::storage_report_full(t, &bin_indices, &used_bins, nodes, free_nodes)
+    }
+
+    // The live lengths summed, and how many of 256 equal parts of the store they fill.
+    pub fn fill(self, nodes: &[u32], free_nodes: &[u32]) -> FillAnswer
+        ensures { λ a. ⌜ Asked (fillSays a) Fill (headWords self (now (nodes .entry)) (now («free_nodes» .entry))) ⌝ }
+    {
+        let t = self.totals;
+        let bin_indices = self.bin_indices;
+        let used_bins = self.used_bins;
+        asking::fill(t, &bin_indices, &used_bins, nodes, free_nodes)
     }
 }

@@ -7,7 +7,7 @@ use Prim.Native.Nat.{ℕ, _≤_, _<_}
 use native.Mathlib.Omega.{arith}
 use lib.ListN.{length}
 use Rattle.ledger.specs.Ledger.{Answer, granted, done, length-is, refused}
-use Rattle.ledger.specs.Calls.{Request, Token, spanOf, SizeOf, Report, FullReport, Call, Take, HandBack, Reset, Ask}
+use Rattle.ledger.specs.Calls.{Request, Token, spanOf, SizeOf, Report, FullReport, Fill, Call, Take, HandBack, Reset, Ask}
 use Rattle.tables.specs.Words.{Words, Edition}
 use Rattle.tables.specs.Calls.{answerWords}
 use Rattle.tables.specs.Claims.{OneOf, mayGive}
@@ -72,6 +72,8 @@ module _ (E : Edition) where
       go (Ask Report) (inr (inr (inr e))) = e
       go (Ask FullReport) (inr (inr (inl e))) = omega arith
       go (Ask FullReport) (inr (inr (inr e))) = e
+      go (Ask Fill) (inr (inr (inl e))) = omega arith
+      go (Ask Fill) (inr (inr (inr e))) = e
 
   -- ---- on no store a call is refused as 6
   pub six : (c : Call) (k : Kept) → k .words .count ≡ 0 → answerWords E c (k .words) ≡ (refused 6, k .words)

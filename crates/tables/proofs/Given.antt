@@ -18,7 +18,7 @@ use Rattle.basics.proofs.Decided.{below, beyond, below?}
 use Rattle.small_float.specs.Class.{up, greatestServed, roundedUp}
 use Rattle.small_float.proofs.Rounding.{rounded-to-class}
 use Rattle.ledger.specs.Ledger.{Answer, done, refused, setup, by-class}
-use Rattle.ledger.specs.Calls.{Request, Token, Question, SizeOf, Report, FullReport, Call, Take, HandBack, Reset, Ask, answer, end}
+use Rattle.ledger.specs.Calls.{Request, Token, Question, SizeOf, Report, FullReport, Fill, Call, Take, HandBack, Reset, Ask, answer, end}
 use Rattle.ledger.proofs.SmallStores.{small-stores}
 use Rattle.tables.specs.Layout.{dataOffset, neighborPrev, neighborNext, used, word, nodesNeeded, pileNeeded}
 use Rattle.tables.specs.Words.{Words, withTotal, withLists}
@@ -275,6 +275,7 @@ asked-never-8 (SizeOf span) w e =
     let room = opened (Ask (SizeOf span)) w e in omega (arith, size-8 edition32 w span room .0 e .0, room .count-high)
 asked-never-8 Report w e = tt
 asked-never-8 FullReport w e = tt
+asked-never-8 Fill w e = tt
 
 never-8 : (c : Call) (w : Words) → answerWords edition32 c w .0 ≡ refused 8 → OfAStore c
 never-8 (Take asked) w e = tt

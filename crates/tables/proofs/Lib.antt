@@ -53,6 +53,7 @@ pub mod SetupSound
 pub mod SetupWrites
 pub mod ReportSound
 pub mod FullReportSound
+pub mod FillSound
 pub mod Questions
 pub mod OneLedger
 pub mod OverRuns

@@ -12,14 +12,14 @@ use lib.ListN.{length, getD, replicate, length-replicate, getD-replicate, List·
 use Rattle.basics.proofs.Decided.{Below, below, beyond, below?}
 use Rattle.small_float.specs.Class.{classesInUse}
 use Rattle.ledger.specs.Ledger.{Ledger, Stacks, by-class, Answer, granted, done, length-is, reported, classes, refused}
-use Rattle.ledger.specs.Calls.{Token, Question, SizeOf, Report, FullReport, told}
+use Rattle.ledger.specs.Calls.{Token, Question, SizeOf, Report, FullReport, Fill, told}
 use borrow.Author.Tests.{lt-ltb, ne-eqb}
 use Rattle.tables.specs.Layout.{dataOffset, dataSize, binNext, used, word, put, nodesNeeded, pileNeeded}
 use Rattle.tables.specs.Words.{Words, Edition, withLists, withTables, wordsFrom}
 use Rattle.tables.specs.Search.{highBit}
 use Rattle.tables.specs.HandBack.{isLive}
 use Rattle.tables.specs.Questions.{reportClass, reportLeaf, reportTop, reportOf, lengthOf, listLength, noted}
-use Rattle.tables.specs.Questions.{Counts, counts, circular, countFrom, fullAnswer, fullReportOf, toldBy, mayTell}
+use Rattle.tables.specs.Questions.{Counts, counts, circular, countFrom, fullAnswer, fullReportOf, fillOfWords, toldBy, mayTell}
 use Rattle.tables.specs.Calls.{edition32}
 use Rattle.tables.specs.Room.{Room}
 use Rattle.tables.specs.Reach.{AgreeOn}
@@ -33,6 +33,7 @@ use Rattle.tables.proofs.Fields.{fits-below, length-put, word-put-field
 use Rattle.tables.proofs.SizeSound.{length-is-told}
 use Rattle.tables.proofs.ReportSound.{report-is}
 use Rattle.tables.proofs.FullReportSound.{full-is}
+use Rattle.tables.proofs.FillSound.{fill-is}
 
 -- ---- refusals
 -- no refusal, or one with a number of these
@@ -65,13 +66,14 @@ module _ (w : Words) where
   full-gives circular = inl refl
 
   pub told-gives : (q : Question) → Gives (mayTell q) (toldBy w q)
-  unfolding toldBy lengthOf fullReportOf
+  unfolding toldBy lengthOf fullReportOf fillOfWords
   told-gives (SizeOf span) =
       either (Gives (5 ∷ 8 ∷ [])) (isLive (w .nodes) (w .count) (span .number))
       (either (Gives (5 ∷ 8 ∷ [])) (eqb (word (w .nodes) dataOffset (span .number)) (span .offset)) tt (inr (inl refl)))
       (inl refl)
   told-gives Report = report-gives
   told-gives FullReport = full-gives (countFrom 256 w 0 (replicate 256 0))
+  told-gives Fill = either (Gives (6 ∷ [])) (ltb (w .size) (w .freeStorage)) (inl refl) tt
 
 -- 5 and 8 are a size query's, and 6 is all else
 pub tell-cases : (q : Question) (k : ℕ) → OneOf (mayTell q) k → (((k ≡ 5) ⊎ (k ≡ 8)) × ((span : Token) × (q ≡ SizeOf span))) ⊎ (k ≡ 6)
@@ -82,6 +84,8 @@ tell-cases Report k (inl e) = inr e
 tell-cases Report k (inr e) = absurd e
 tell-cases FullReport k (inl e) = inr e
 tell-cases FullReport k (inr e) = absurd e
+tell-cases Fill k (inl e) = inr e
+tell-cases Fill k (inr e) = absurd e
 
 -- ---- what is read: w, and w with other tables that agree with its own
 module _ (w : Words) (nodes pile : List ℕ) (N : AgreeOn (nodesNeeded (w .count)) (w .nodes) nodes)
@@ -136,10 +140,11 @@ module _ (w : Words) (nodes pile : List ℕ) (N : AgreeOn (nodesNeeded (w .count
       λ i. noted (walk-same (w .count) (getD (w .binIndices) c 0) 0 i) (λ (l : List ℕ). counts-same k (suc c) l i) c so-far
 
   pub told-alike : (q : Question) → toldBy w q ≡ toldBy v q
-  unfolding toldBy lengthOf fullReportOf
+  unfolding toldBy lengthOf fullReportOf fillOfWords
   told-alike (SizeOf span) = size-same span
   told-alike Report = report-same
   told-alike FullReport = ap fullAnswer (counts-same 256 0 (replicate 256 0))
+  told-alike Fill = refl
 
 -- ---- on sound words
 pub told-sound : (E : Edition) (w : Words) (l : Ledger Stacks) → Sound E w l → (q : Question) → toldBy w q ≡ told by-class (w .size) (w .count) q l
@@ -147,6 +152,7 @@ unfolding toldBy told
 told-sound E w l S (SizeOf span) = length-is-told E w l S (span .number) (span .offset)
 told-sound E w l S Report = report-is E w l S
 told-sound E w l S FullReport = full-is E w l S
+told-sound E w l S Fill = fill-is E w l S
 
 -- ---- that each number is given, on words for which there is room
 -- scalars over tables of zeros: no record is live, and no class holds anything
@@ -177,6 +183,14 @@ top-alone = withLists (two 1) 1 [] [] (replicate 16 0)
 report-6 : toldBy top-alone Report ≡ refused 6
 unfolding toldBy leadingZeros
 report-6 = refl
+
+-- a unit is free in a store of none
+abbrev more-free : Words
+more-free = wordsFrom 0 2 1 0 0 [] [] (replicate 16 0) (replicate 2 0)
+
+fill-6 : toldBy more-free Fill ≡ refused 6
+unfolding toldBy fillOfWords
+fill-6 = refl
 
 size-5 : (span : Token) → toldBy (two 0) (SizeOf span) ≡ refused 5
 unfolding toldBy lengthOf isLive word
@@ -239,3 +253,5 @@ told-given Report k in-store (inl e) = shown Report e (top-alone, room 1, report
 told-given Report k in-store (inr e) = absurd e
 told-given FullReport k in-store (inl e) = shown FullReport e (two 1, room 1, around-6)
 told-given FullReport k in-store (inr e) = absurd e
+told-given Fill k in-store (inl e) = shown Fill e (more-free, room 0, fill-6)
+told-given Fill k in-store (inr e) = absurd e

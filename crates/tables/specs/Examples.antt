@@ -7,7 +7,7 @@ use mathlib.Core.List.{List, [], _∷_, map}
 use lib.ListN.{length, set, replicate}
 use Rattle.ledger.specs.Ledger.{Answer, granted, done, length-is, reported, refused}
 use Rattle.small_float.specs.Class.{greatestServed}
-use Rattle.ledger.specs.Calls.{Request, Token, Question, SizeOf, Report, FullReport, Call, Take, HandBack, Reset, Ask}
+use Rattle.ledger.specs.Calls.{Request, Token, Question, SizeOf, Report, FullReport, Fill, Call, Take, HandBack, Reset, Ask}
 use Rattle.ledger.specs.Calls.{takes, hands-back, asks-size, answers, end}
 use Rattle.ledger.specs.RunToFollow.{the-calls, the-answers}
 use Rattle.tables.specs.Layout.{dataOffset, dataSize, binNext, put, nodesNeeded, pileNeeded}
@@ -213,6 +213,7 @@ abbrev pub AsksOfAStore : Question → Type 0
 AsksOfAStore (SizeOf span) = span .number < edition32 .limit
 AsksOfAStore Report = Unit
 AsksOfAStore FullReport = Unit
+AsksOfAStore Fill = Unit
 
 abbrev pub OfAStore : Call → Type 0
 OfAStore (Take asked) = Unit

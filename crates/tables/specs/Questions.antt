@@ -1,12 +1,13 @@
--- What the questions answer on words: size query, and both reports. Assumes nothing.
+-- What the questions answer on words: size query, both reports, the fill. Assumes nothing.
 use mathlib.Core.Bool.{cond}
 use mathlib.Core.List.{List, [], _∷_, map}
-use Prim.Native.Nat.{ℕ, zero, suc, _+_, _*_}
+use Prim.Native.Nat.{ℕ, zero, suc, _+_, _-_, _*_}
 use lib.Dec.{ltb, eqb}
 use lib.ListN.{getD, set, replicate}
 use Rattle.small_float.specs.Class.{value, classesInUse}
 use Rattle.ledger.specs.Ledger.{Answer, length-is, reported, classes, refused, numbersFrom}
-use Rattle.ledger.specs.Calls.{Token, Question, SizeOf, Report, FullReport}
+use Rattle.ledger.specs.Fill.{fillOf}
+use Rattle.ledger.specs.Calls.{Token, Question, SizeOf, Report, FullReport, Fill}
 use Rattle.tables.specs.Layout.{dataOffset, dataSize, binNext, word}
 use Rattle.tables.specs.Words.{Words}
 use Rattle.tables.specs.Search.{highBit}
@@ -73,14 +74,22 @@ unfoldable pub fullReportOf : Words → Answer
 unfolding fullAnswer countFrom
 fullReportOf w = fullAnswer (countFrom 256 w 0 (replicate 256 0))
 
+-- ---- the fill: what is not free is live, and no more can be free than there is
+unfoldable pub fillOfWords : Words → Answer
+unfolding fillOf
+fillOfWords w =
+    cond (ltb (w .size) (w .freeStorage)) (refused 6) (reported (w .size - w .freeStorage) (fillOf (w .size - w .freeStorage) (w .size)))
+
 -- ---- every question, and the refusals that each can give once the gate is open
 unfoldable pub toldBy : Words → Question → Answer
-unfolding lengthOf reportOf fullReportOf
+unfolding lengthOf reportOf fullReportOf fillOfWords
 toldBy w (SizeOf span) = lengthOf w span
 toldBy w Report = reportOf w
 toldBy w FullReport = fullReportOf w
+toldBy w Fill = fillOfWords w
 
 abbrev pub mayTell : Question → List ℕ
 mayTell (SizeOf span) = 5 ∷ 8 ∷ []
 mayTell Report = 6 ∷ []
 mayTell FullReport = 6 ∷ []
+mayTell Fill = 6 ∷ []

@@ -1,0 +1,23 @@
+-- Any two results that a reading's contract allows are the same values of the code: the answer, with its floats, and the gauge that comes back.
+-- proofs/OneReading.antt makes it. Assumes nothing.
+use mathlib.Core.Path.{_≡_}
+use lib.Ieee as ieee
+use lib.Ieee.{binary32}
+use Rattle.ledger.specs.Ledger.{Answer}
+use Rattle.tables.specs.Words.{Words, Edition}
+use Rattle.gauge.specs.declared.Taken.{Taken}
+use Rattle.gauge.specs.Rule.{Watch}
+use Rattle.gauge.specs.Answers.{Told, readAfter, watchOf, readingSays}
+use Rattle.gauge.specs.Promise.{ReadPromise}
+
+pub record OneReading (E : Edition) : Type 0 where
+  -- of a store, in either form
+  pub of-store : (w : Words) (g : Watch) (a b : Taken) → ReadPromise E w g (readingSays (a .answer)) (watchOf (a .watch))
+      → ReadPromise E w g (readingSays (b .answer)) (watchOf (b .watch)) → a ≡ b
+  -- by what the store told
+  pub of-told : (g : Watch) (told : Answer) (a b : Taken) → (readingSays (a .answer), watchOf (a .watch)) ≡ readAfter g told
+      → (readingSays (b .answer), watchOf (b .watch)) ≡ readAfter g told → a ≡ b
+  -- the same of bits: where two are the same value, they have the same pattern
+  pub as-bits : (a b : Taken) → a ≡ b
+      → (ieee.toBits binary32 (a .watch .gauge .level) ≡ ieee.toBits binary32 (b .watch .gauge .level))
+      × (ieee.toBits binary32 (a .watch .gauge .peak) ≡ ieee.toBits binary32 (b .watch .gauge .peak))
