@@ -4,11 +4,10 @@ use native.Mathlib.Omega.{arith}
 use mathlib.Core.Bool.{Bool, true, false, cond}
 use mathlib.Core.Path.{_≡_, refl, sym, ap, subst, _∙_}
 use lib.Dec.{ltb}
-use lib.IntN.{ℤ, pos, negsuc, _-ℤ_, subℕ}
+use lib.IntN.{ℤ, pos, negsuc, _-ℤ_}
 use mir.Val.{SFits, toZ, ofZ}
 use mir.Syntax.{w64}
 use mir.Facts.{toZ-pos, toZ-ofZ}
-use borrow.Author.Tests.{ltb-true, ltb-false}
 
 module _ (a b : ℕ) (a-fits : a < 2 ^ 32) (b-fits : b < 2 ^ 32) where
   -- whichever is greater

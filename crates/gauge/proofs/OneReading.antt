@@ -1,20 +1,16 @@
 -- A reading is given by what it says, and so is the gauge that comes back. Assumes nothing.
-use mathlib.Core.Path.{_≡_, refl, sym, ap, _∙_}
-use Prim.Native.Nat.{ℕ}
-use lib.IntN.{ℤ}
+use mathlib.Core.Path.{_≡_, sym, ap, _∙_}
 use lib.Ieee as ieee
-use lib.Ieee.{Float, binary32}
+use lib.Ieee.{binary32}
 use Rattle.basics.proofs.Clash.{clash}
 use Rattle.tables.specs.Words.{Edition}
-use Rattle.answers.specs.Refusals.{numberOf}
 use Rattle.answers.proofs.Numbers.{number-means}
 use Rattle.gauge.specs.declared.Watch.{Watch}
-use Rattle.gauge.specs.declared.Reading.{Reading}
 use Rattle.gauge.specs.declared.ReadingAnswer.{ReadingAnswer}
 use Rattle.gauge.specs.declared.ReadingAnswer.the-variants as reading
 use Rattle.gauge.specs.declared.Taken.{Taken}
 use Rattle.gauge.specs.Rule as rule
-use Rattle.gauge.specs.Answers.{Told, read, not-read, watchOf, readingSays}
+use Rattle.gauge.specs.Answers.{Told, watchOf, readingSays}
 use Rattle.gauge.specs.OneReading.{OneReading}
 
 one-watch : (a b : Watch) → watchOf a ≡ watchOf b → a ≡ b

@@ -10,8 +10,8 @@ use Rattle.tables.specs.Calls.{answerWords}
 use Rattle.tables.specs.Sound.{Sound}
 use Rattle.tables.specs.Promise.{Promise}
 use Rattle.tables.proofs.Promise.{promise}
-use Rattle.gauge.specs.Rule.{Watch, watchAfter}
-use Rattle.gauge.specs.Answers.{Told, read, not-read, readAfter}
+use Rattle.gauge.specs.Rule.{Watch}
+use Rattle.gauge.specs.Answers.{Told, not-read, readAfter}
 use Rattle.gauge.specs.Promise.{ReadPromise}
 
 -- where no reading is told, the gauge is as it came

@@ -73,6 +73,6 @@ pub record GaugeClaims : Type 0 where
   pub row-255 : ieee.toBits binary32 (readings 10 255 .level) ≡ 1128000109
   pub row-falls : ieee.toBits binary32 (watchAfter (readings 10 255) 0 0 .level) ≡ 1126460703
   pub row-peak : ieee.toBits binary32 (watchAfter (readings 10 255) 0 0 .peak) ≡ 1128000109
-  -- "each operation rounded once in that order": six readings of 3, then one of 250. With the difference not rounded, as level * 0.875 + fill * 0.125, or as
-  -- (7 * level + fill) * 0.125 it is 1107478947
+  -- "each operation rounded once in that order": six readings of 3, then one of 250. Rounded once, at its end, or as level * 0.875 + fill * 0.125, or as
+  -- (7 * level + fill) * 0.125, it is 1107478947
   pub row-order : ieee.toBits binary32 (watchAfter (readings 6 3) 0 250 .level) ≡ 1107478948

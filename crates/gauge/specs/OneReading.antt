@@ -7,7 +7,7 @@ use Rattle.ledger.specs.Ledger.{Answer}
 use Rattle.tables.specs.Words.{Words, Edition}
 use Rattle.gauge.specs.declared.Taken.{Taken}
 use Rattle.gauge.specs.Rule.{Watch}
-use Rattle.gauge.specs.Answers.{Told, readAfter, watchOf, readingSays}
+use Rattle.gauge.specs.Answers.{readAfter, watchOf, readingSays}
 use Rattle.gauge.specs.Promise.{ReadPromise}
 
 pub record OneReading (E : Edition) : Type 0 where

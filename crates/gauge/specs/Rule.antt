@@ -1,7 +1,6 @@
 -- Document 02's rule of the fill gauge, on numbers alone, with the library's IEEE operations, each of which rounds once. Assumes nothing.
-use Prim.Native.Nat.{ℕ, _%_, _≤_}
+use Prim.Native.Nat.{ℕ, _≤_}
 use mathlib.Core.Bool.{false, cond}
-use mathlib.Core.List.{List, [], _∷_}
 use lib.IntN.{ℤ, pos, negsuc, _-ℤ_}
 use lib.Ieee as ieee
 use lib.Ieee.{Float, fin, binary32}

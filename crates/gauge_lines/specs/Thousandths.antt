@@ -3,7 +3,7 @@ use Prim.Native.Nat.{ℕ}
 use mathlib.Core.Bool.{true, false, _&&_, cond}
 use mathlib.Core.Path.{_≡_, refl}
 use lib.IntN.{pos, negsuc}
-use lib.Ieee.{Float, fin, nan, inf, binary64, mul, lt, toUnsigned}
+use lib.Ieee.{Float, fin, nan, binary64, mul, lt, toUnsigned}
 
 -- above -1 and below 2 ^ 64, the whole part; otherwise 0
 unfoldable pub wholePart : Float → ℕ

@@ -1,30 +1,35 @@
 -- What document 02 says of the gauge over runs, by citation. Assumes nothing.
-use mathlib.Core.Path.{_≡_, refl, sym, ap, subst, _∙_}
+use mathlib.Core.Path.{_≡_, sym, ap, subst, _∙_}
 use mathlib.Core.Logic.{_≢_}
 use mathlib.Core.List.{List, [], _∷_, _++_, map}
-use Prim.Native.Nat.{ℕ, _<_}
+use Prim.Native.Nat.{ℕ, _≤_, _<_}
 use native.Mathlib.Omega.{arith}
-use lib.IntN.{ℤ, pos, _+ℤ_, _-ℤ_, natAbs, +ℤ-idr, +ℤ-invr}
+use lib.IntN.{pos, _+ℤ_, _-ℤ_, natAbs, +ℤ-idr, +ℤ-invr}
+use Rattle.basics.specs.Sum.{tally}
 use Rattle.basics.proofs.Clash.{clash}
-use Rattle.ledger.specs.Ledger.{Ledger, Stacks, Answer, reported, refused, by-class}
+use Rattle.ledger.specs.Ledger.{Ledger, Stacks, Answer, reported, refused, setup, by-class}
 use Rattle.ledger.specs.Fill.{liveUnits, fillOf}
-use Rattle.ledger.specs.Calls.{Fill, Ask}
+use Rattle.ledger.specs.Calls.{Fill, Ask, Event}
+use Rattle.ledger.specs.History.{Span, outAfter}
+use Rattle.ledger.proofs.Fills.{fill-means}
+use Rattle.ledger.proofs.ByClass.{class-laws}
 use Rattle.ledger.specs.Stretch.{Stretch}
 use Rattle.tables.specs.Words.{Words, Edition}
 use Rattle.tables.specs.Calls.{answerWords}
 use Rattle.tables.specs.Claims.{OneOf}
 use Rattle.tables.proofs.Claims as tables
 use Rattle.demands.specs.Runs as plain
-use Rattle.demands.specs.Runs.{NoSetup, answersOf, logOf}
+use Rattle.demands.specs.Runs.{NoSetup, answersOf, callsOf, logOf}
 use Rattle.demands.specs.Demands.{Since, ledgerAfter}
-use Rattle.demands.proofs.Demands.{demands}
-use Rattle.gauge.specs.Rule.{Watch, begun, Reached, after, netChange, watchAfter}
+use Rattle.demands.proofs.Demands.{since-means, demands}
+use Rattle.gauge.specs.Rule as rule
+use Rattle.gauge.specs.Rule.{Watch, Reached, after, netChange, watchAfter}
 use Rattle.gauge.specs.Answers.{Told, not-read, readAfter}
 use Rattle.gauge.specs.Promise.{ReadPromise}
 use Rattle.gauge_runs.specs.Runs.{Done, took, GaugedRun, nothing, then, reads, askedOf, otherAsked, others, toldOf, netOf, netsOf, seenOf}
 use Rattle.gauge_runs.specs.Claims.{GaugedSince, GaugedSinceMeans, GaugeDemands}
 use Rattle.gauge_runs.proofs.Readings.{ReadCase, kept, moved, read-case, too-much-free, no-more-free}
-use Rattle.gauge_runs.proofs.Runs.{others-asked, without, questions, AsQuestions, as-questions, seen-alike, and-reads}
+use Rattle.gauge_runs.proofs.Runs.{others-asked, without, questions, as-questions, seen-alike, and-reads}
 use Rattle.gauge_runs.proofs.Nets.{nets-add-up}
 
 module _ (E : Edition) where
@@ -62,6 +67,19 @@ module _ (E : Edition) where
       let nets = netsOf (toldOf (ds ++ (took t ∷ []))) in
       sym (+ℤ-idr nets) ∙ ap (λ (n : ℕ). nets +ℤ pos n) (sym first) ∙ nets-add-up E (and-reads E (s .run) p) ∙ ap pos (last-is (since s) p)
 
+  by-the-history : {size count : ℕ} {at-first now : Words} {g at h : Watch} {t : Told} {ds : List Done}
+      → GaugedSince E size count (setup by-class size count) at-first g ds now at → ReadPromise E now at t h
+      → let units = tally (λ (x : Span). x .size) (outAfter (logOf (others ds)) []) in (t, h) ≡ readAfter at (reported units (fillOf units size))
+  by-the-history {size} {count} {at-first = at-first} {at = at} {ds = ds} s p =
+      let two : 2 ≤ count
+      = omega (arith, since-means E .begun-says size count (setup by-class size count) at-first (s .begun) .1, s .begun .stands .room .tables .count-low) in
+      let known = fill-means by-class class-laws size count two .live-by-history (callsOf (others ds)) in
+      let logged = demands E .as-the-ledger (since s) .0 in
+      let units-are : liveUnits (ledgerAfter size count (setup by-class size count) (others ds))
+      ≡ tally (λ (x : Span). x .size) (outAfter (logOf (others ds)) [])
+      = known ∙ ap (λ (es : List Event). tally (λ (x : Span). x .size) (outAfter es [])) (sym logged) in
+      by-the-ledger (since s) p ∙ ap (λ (n : ℕ). readAfter at (reported n (fillOf n size))) units-are
+
   -- ---- a gauge begun at 0
   stays-begun : {w u : Words} {g h : Watch} {ds : List Done} → GaugedRun E w g ds u h → Reached g → Reached h
   stays-begun nothing r = r
@@ -98,7 +116,7 @@ gauged-since-means E = record {
 
 -- the first counts from 0, and the second from the first
 swayed : (units fill : ℕ) → 0 < units
-    → netOf (readAfter begun (reported units fill) .0) ≢ netOf (readAfter (readAfter begun (reported units fill) .1) (reported units fill) .0)
+    → netOf (readAfter rule.begun (reported units fill) .0) ≢ netOf (readAfter (readAfter rule.begun (reported units fill) .1) (reported units fill) .0)
 unfolding readAfter watchAfter netChange
 swayed units fill some e =
     let nothing-more : pos units -ℤ pos units ≡ pos 0 = +ℤ-invr (pos units) in
@@ -115,6 +133,7 @@ gauge-demands E = record {
   too-much-free-6 = λ {w = w} p more room. refused-told E 6 p (too-much-free E w room more);
   else-read = λ {w = w} {g = g} p no-more room. p .exact ∙ ap (readAfter g) (no-more-free E w room no-more);
   by-the-ledger = λ s p. by-the-ledger E (since E s) p;
+  by-the-history = by-the-history E;
   stays-begun = stays-begun E;
   nets-add-up = nets-add-up E;
   nets-are-live = nets-are-live E;

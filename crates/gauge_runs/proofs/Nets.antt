@@ -1,7 +1,6 @@
 -- The net changes of a run add up. Assumes nothing.
-use mathlib.Core.Path.{_≡_, refl, sym, ap, _∙_}
+use mathlib.Core.Path.{_≡_, ap, _∙_}
 use mathlib.Core.List.{List}
-use Prim.Native.Nat.{ℕ}
 use lib.IntN.{ℤ, pos, _+ℤ_, +ℤ-idl, +ℤ-comm, +ℤ-assoc, -ℤ-+ℤ-cancel}
 use Rattle.tables.specs.Words.{Words, Edition}
 use Rattle.gauge.specs.Rule.{Watch, netChange, watchAfter}

@@ -1,7 +1,6 @@
 -- Runs with readings from the other side, and as runs of the calls alone. Assumes nothing.
 use mathlib.Core.Path.{_≡_, refl, sym, ap, subst, _∙_}
 use mathlib.Core.List.{List, [], _∷_, _++_, map}
-use Prim.Native.Nat.{ℕ}
 use lib.IntN.{+ℤ-idl}
 use Rattle.basics.proofs.Clash.{clash}
 use Rattle.ledger.specs.Ledger.{Answer, granted, done, length-is, reported, classes, refused}

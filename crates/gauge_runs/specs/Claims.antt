@@ -4,17 +4,20 @@ use mathlib.Core.Path.{_≡_}
 use mathlib.Core.List.{List, [], _∷_, _++_, map}
 use mathlib.Core.Logic.{_↔_, _≢_}
 use Prim.Native.Nat.{ℕ, _-_, _≤_, _<_}
-use lib.IntN.{ℤ, pos, _+ℤ_}
+use lib.IntN.{pos, _+ℤ_}
 use lib.ListN.{length}
-use Rattle.ledger.specs.Ledger.{Ledger, Stacks, reported, by-class}
+use Rattle.basics.specs.Sum.{tally}
+use Rattle.ledger.specs.Ledger.{Ledger, Stacks, reported, setup, by-class}
 use Rattle.ledger.specs.Fill.{liveUnits, fillOf}
+use Rattle.ledger.specs.History.{Span, outAfter}
 use Rattle.ledger.specs.Stretch.{Stretch}
 use Rattle.tables.specs.Words.{Words, Edition}
 use Rattle.tables.specs.Room.{Room}
 use Rattle.tables.specs.Claims.{OneOf, BadCount, TooShort}
 use Rattle.demands.specs.Runs.{Run, NoSetup, answersOf, logOf}
 use Rattle.demands.specs.Demands.{Begun, Since, ledgerAfter}
-use Rattle.gauge.specs.Rule.{Watch, begun, Reached}
+use Rattle.gauge.specs.Rule as rule
+use Rattle.gauge.specs.Rule.{Watch, Reached}
 use Rattle.gauge.specs.Answers.{Told, not-read, readAfter}
 use Rattle.gauge.specs.Promise.{ReadPromise}
 use Rattle.gauge_runs.specs.Runs.{Done, took, GaugedRun, askedOf, others, toldOf, netOf, netsOf, seenOf}
@@ -49,6 +52,10 @@ pub record GaugeDemands (E : Edition) : Type 0 where
   pub by-the-ledger : {size count : ℕ} {l : Ledger Stacks} {at-first now : Words} {g at h : Watch} {t : Told} {ds : List Done}
       → GaugedSince E size count l at-first g ds now at → ReadPromise E now at t h
       → let units = liveUnits (ledgerAfter size count l (others ds)) in (t, h) ≡ readAfter at (reported units (fillOf units size))
+  -- since a setup or a reset these are the spans that are out by the history of calls and answers alone, their sizes as asked for, summed
+  pub by-the-history : {size count : ℕ} {at-first now : Words} {g at h : Watch} {t : Told} {ds : List Done}
+      → GaugedSince E size count (setup by-class size count) at-first g ds now at → ReadPromise E now at t h
+      → let units = tally (λ (x : Span). x .size) (outAfter (logOf (others ds)) []) in (t, h) ≡ readAfter at (reported units (fillOf units size))
   -- ---- "in any gauge begun at 0": on whatever words its readings were taken, spoiled ones included, it stays one of those of which
   -- gauge/specs/Claims.antt speaks
   pub stays-begun : {w u : Words} {g h : Watch} {ds : List Done} → GaugedRun E w g ds u h → Reached g → Reached h
@@ -64,8 +71,8 @@ pub record GaugeDemands (E : Edition) : Type 0 where
   -- the same since a beginning: without its readings it is one of the demands'
   pub since : {size count : ℕ} {l : Ledger Stacks} {at-first now : Words} {g h : Watch} {ds : List Done}
       → GaugedSince E size count l at-first g ds now h → Since E size count l at-first (others ds) now
-  -- ---- "in demand 3's stretch it sways later readings only": readings may stand in the stretch, before it and after it, of any gauges. All but later
-  -- readings answers as though the stretch had never been
+  -- ---- "in demand 3's stretch it sways later readings only": readings may stand in the stretch, before it and after it, whatever the gauge. Everything
+  -- but later readings answers as though the stretch had never been
   pub as-never : {size count : ℕ} {l : Ledger Stacks} {at-first at-the-moment after-the-stretch one-end other-end : Words}
       {g g-then g-after g-end g-other : Watch} {before stretch later instead : List Done}
       → GaugedSince E size count l at-first g before at-the-moment g-then
@@ -75,7 +82,7 @@ pub record GaugeDemands (E : Edition) : Type 0 where
       → answersOf (others later) ≡ answersOf (others instead)
   -- that later readings have to be excepted: of two in a row, of a store in which a unit is live, the second tells another net change
   pub readings-are-swayed : (units fill : ℕ) → 0 < units
-      → netOf (readAfter begun (reported units fill) .0) ≢ netOf (readAfter (readAfter begun (reported units fill) .1) (reported units fill) .0)
+      → netOf (readAfter rule.begun (reported units fill) .0) ≢ netOf (readAfter (readAfter rule.begun (reported units fill) .1) (reported units fill) .0)
   -- and of later readings only level, peak and net change are swayed: their fills are the same, and so are their refusals
   pub same-fills : {size count : ℕ} {l : Ledger Stacks} {at-first at-the-moment after-the-stretch one-end other-end : Words}
       {g g-then g-after g-end g-other : Watch} {before stretch later instead : List Done}

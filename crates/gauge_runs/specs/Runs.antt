@@ -11,7 +11,7 @@ use Rattle.tables.specs.Words.{Words, Edition}
 use Rattle.tables.specs.Calls.{answerWords}
 use Rattle.tables.specs.Room.{OfHead}
 use Rattle.demands.specs.Runs as plain
-use Rattle.demands.specs.Runs.{Step, Run, SizesFit}
+use Rattle.demands.specs.Runs.{Step, SizesFit}
 use Rattle.gauge.specs.Rule.{Watch}
 use Rattle.gauge.specs.Answers.{Told, read, not-read, readAfter}
 use Rattle.gauge.specs.Promise.{ReadPromise}

@@ -9,12 +9,11 @@ use lib.Dec.{eqb}
 use borrow.Author.Tests.{ne-eqb}
 use Rattle.basics.specs.Sum.{tally}
 use Rattle.small_float.specs.Class.{roundedUp}
-use Rattle.ledger.specs.Ledger.{Engine, Ledger, Region, live, free, len, freeLen, setup, onTop, without, lowestFrom, highest}
+use Rattle.ledger.specs.Ledger.{Engine, Region, live, free, len, freeLen, setup, onTop, without, lowestFrom, highest}
 use Rattle.ledger.specs.Fill.{liveLen, liveUnits, fillOf}
 use Rattle.ledger.specs.Calls.{Call, answer, answers, end, log, told}
 use Rattle.ledger.specs.Laws.{Laws}
 use Rattle.ledger.specs.FillMeans.{FloorMeans, FillMeans, FillRows}
-use Rattle.ledger.specs.WellFormed.{WellFormed}
 use Rattle.ledger.specs.History.{Span, outAfter}
 use Rattle.ledger.proofs.CallsWell.{setup-well, end-well}
 use Rattle.ledger.proofs.History.{history-sum}

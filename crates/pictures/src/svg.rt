@@ -67,7 +67,7 @@ pub fn fine_rect(waiting: usize, class: &[u8], area: Area, out: &mut [u8; 65536]
     journal_lines::put(height, b"/>\n", out)
 }
 
-// A text begins; it ends with `close`.
+// A text begins; it ends with `close_text`.
 pub fn open_text(waiting: usize, class: &[u8], x: u32, y: u32, out: &mut [u8; 65536]) -> usize {
     let begun = journal_lines::put(waiting, b"<text class='", out);
     let classed = journal_lines::put(begun, class, out);

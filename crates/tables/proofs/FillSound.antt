@@ -1,10 +1,9 @@
 -- The fill on sound words is the ledger's: the kept total is the free lengths summed, and what is not free is live. Assumes nothing.
-use mathlib.Core.Path.{_≡_, sym, ap}
-use Prim.Native.Nat.{ℕ, _+_, _-_, _≤_}
+use mathlib.Core.Path.{_≡_}
+use Prim.Native.Nat.{_-_, _≤_}
 use native.Mathlib.Omega.{arith}
 use borrow.Author.Tests.{le-ltb}
-use Rattle.basics.specs.Sum.{tally}
-use Rattle.ledger.specs.Ledger.{Ledger, Stacks, freeLen, reported}
+use Rattle.ledger.specs.Ledger.{Ledger, Stacks, reported}
 use Rattle.ledger.specs.Fill.{liveUnits, fillOf}
 use Rattle.ledger.proofs.Fills.{live-free}
 use Rattle.tables.specs.Words.{Words, Edition}

@@ -228,8 +228,8 @@ pub record AllGiven : Type 0 where
   -- and behind an open gate no number is named that is not meant: a reset is never refused there, a size query with 5 and 8 alone
   pub reset-never : (k : ℕ) → ¬ OneOf (mayGiveBehind Reset) k
   pub size-query-5-8 : (span : Token) (k : ℕ) → OneOf (mayGiveBehind (Ask (SizeOf span))) k ↔ ((k ≡ 5) ⊎ (k ≡ 8))
-  -- and every number that is named there is given there, the 6 of a take, of a hand-back and of both reports among them: for a take of any size, 6 if it
-  -- has a class, for any record that a store can have, and for every question
+  -- and every number that is named there is given there, the 6 of a take, of a hand-back, of both reports and of the fill among them: for a take of any
+  -- size, 6 if it has a class, for any record that a store can have, and for every question
   pub take-behind : (asked : Request) (k : ℕ) → (k ≡ 6 → asked .size ≤ greatestServed) → OneOf (mayGiveBehind (Take asked)) k
       → GivenBehind (Take asked) k
   pub back-behind : (span : Token) (k : ℕ) → span .number < edition32 .limit → OneOf (mayGiveBehind (HandBack span)) k → GivenBehind (HandBack span) k

@@ -2,7 +2,6 @@
 use mathlib.Core.Path.{sym, ap, _∙_}
 use Rattle.answers.specs.Answers.{fillSays}
 use borrow.Author.Needs.{needs}
-use Rattle.gauge.specs.Rule.{watchAfter}
 use Rattle.gauge.specs.Answers.{watchOf, readAfter}
 use Rattle.gauge.proofs.take_reading.Statement.{statement}
 use Rattle.gauge.proofs.take_reading.Tie as tie

@@ -1,13 +1,12 @@
 -- A pattern is a not-a-number's exactly if it is above the infinity's, but for the sign. Assumes nothing.
 use Prim.Native.Nat.{ℕ, _<_, _≤_, _%_}
-use mathlib.Core.Path.{_≡_, refl, sym, ap, subst, _∙_}
-use mathlib.Core.Bool.{true, false, not}
-use lib.Dec.{T, ltb}
+use mathlib.Core.Path.{_≡_, refl, sym, subst, _∙_}
+use mathlib.Core.Bool.{true, not}
+use lib.Dec.{T}
 use lib.Ieee.{Float, nan, inf, fin, isNan, nanBits, ofBits, div, binary32}
 use lib.Ieee.Bits.{nanBits-is, nanBits-above}
 use borrow.Author.Tests.{lt-ltb, le-ltb}
 use borrow.Author.Needs.{needs}
-use Rattle.basics.proofs.Clash.{clash}
 use Rattle.gauge_verdicts.proofs.float_of.Statement.{statement}
 use Rattle.gauge_verdicts.proofs.float_of.Tie as tie
 

@@ -1,6 +1,6 @@
 -- Widening leaves the number; 1000 is written by its bit pattern. Assumes nothing.
 use mathlib.Core.Bool.{false}
-use mathlib.Core.Path.{_≡_, ap, _∙_}
+use mathlib.Core.Path.{ap, _∙_}
 use lib.IntN.{pos}
 use lib.Ieee.{Float, fin, binary64, mul, ofBits}
 use borrow.Author.Needs.{needs}

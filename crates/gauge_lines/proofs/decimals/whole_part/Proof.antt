@@ -1,5 +1,5 @@
 -- The call asks that the number is above -1 and below 2 ^ 64; the two tests say so, each with its number by its bit pattern. Assumes nothing.
-use mathlib.Core.Bool.{true, false, _&&_, cond}
+use mathlib.Core.Bool.{true, false}
 use mathlib.Core.Path.{_≡_, refl, sym, subst, _∙_}
 use lib.Dec.{T}
 use lib.IntN.{pos}

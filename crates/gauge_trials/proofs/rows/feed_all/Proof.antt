@@ -3,7 +3,6 @@ use Prim.Native.Nat.{_-_, _^_, _≤_, _<_}
 use mathlib.Core.Path.{_≡_}
 use lib.ListN.{length}
 use native.Mathlib.Omega.{arith}
-use borrow.Author.Needs.{needs}
 use Rattle.gauge_trials.proofs.rows.feed_all.Statement.{statement}
 use Rattle.gauge_trials.proofs.rows.feed_all.Tie as tie
 
