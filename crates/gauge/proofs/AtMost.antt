@@ -83,7 +83,8 @@ below-value (fin false m e) (fin false n d) a c p v h =
     through (m * up e) (n * up d) a (down e) (down d) c (down-pos d) (lt-or-eq l r (ltb l r) (eqb l r) (ltb→lt l r) (eqb→eq l r) h) (le-of-eq (v .1))
 
 -- b / d is a value of the format
-pub round-at-most : (f : Format) (a c b d : ℕ) → 0 < c → 0 < d → HasValue (round f false b d) false b d → a * d ≤ b * c → AtMost (round f false a c) b d
+pub round-at-most : (f : Format) (a c b d : ℕ) → 0 < c → 0 < d → HasValue (round f false b d) false b d → a * d ≤ b * c
+    → AtMost (round f false a c) b d
 round-at-most f a c b d C D v h = below-value (round f false a c) (round f false b d) b d (plus-round f a c) v (round-mono f a c b d C D h)
 
 -- ---- a value of the format is rounded to itself
@@ -139,7 +140,8 @@ under-top m u d l g top L e h =
     let scaled : m * u * l < l * top * d = subst (λ (x : ℕ). m * u * l < x) (mul-comm (top * d) l ∙ sym (mul-assoc l top d)) (mul-lt-mul-of-pos-right h L) in
     lt-of-mul-lt-mul-right d (subst (λ (x : ℕ). x < l * top * d) (sym moved) scaled)
 
-pub rounds-to-itself : (f : Format) (s : Bool) (m : ℕ) (e : ℤ) → T (fits f (fin s m e)) → HasValue (round f false (m * up e) (down e)) false (m * up e) (down e)
+pub rounds-to-itself : (f : Format) (s : Bool) (m : ℕ) (e : ℤ) → T (fits f (fin s m e))
+    → HasValue (round f false (m * up e) (down e)) false (m * up e) (down e)
 rounds-to-itself f s zero e t =
     round-exact f false (zero * up e) (down e) 0 0 (down-pos e) (pow-pos (prec f)) (pow-pos (low f + suc (emax f)))
     (ap (λ (x : ℕ). x * 2 ^ low f) (zero-mul (up e)) ∙ zero-mul (2 ^ low f) ∙ sym (zero-mul (down e)))
