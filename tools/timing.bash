@@ -43,22 +43,26 @@ floor() {
 }
 
 # timed FILE COMMAND...: its user and system time in milliseconds; what it printed is in the file. The two are added, since how a system tells them
-# apart is coarse.
+# apart is coarse. Of a program that fails there is no time: it is named, and nothing is printed.
 timed() {
-    local out=$1 TIMEFORMAT='%U %S'
+    local out=$1 spent TIMEFORMAT='%U %S'
     shift
-    { time "$@" > "$out"; } 2>&1 | awk '{ printf "%d\n", ($1 + $2) * 1000 + 0.5 }'
+    spent=$({ time "$@" > "$out" 2> "$made/errors"; } 2>&1) || { echo "failed, and is not timed: $*" >&2; cat "$made/errors" >&2; return 1; }
+    awk '{ printf "%d\n", ($1 + $2) * 1000 + 0.5 }' <<< "$spent"
 }
 
 # take NAME MILLISECONDS: the least of a name counts
 declare -A least
 take() {
+    [ -n "$2" ] || exit 1
     if [ "$2" -lt "${least[$1]:-999999999}" ]; then least[$1]=$2; fi
 }
 
-# least_of COMMAND...: the least of the numbers that it prints in as many rounds as the tool has
+# least_of COMMAND...: the least of the numbers that it prints in as many rounds as the tool has; nothing, where it fails
 least_of() {
-    for ((round = 0; round < rounds; round++)); do "$@"; done | sort -n | head -1
+    local all
+    all=$(for ((round = 0; round < rounds; round++)); do "$@" || exit 1; done) || return 1
+    sort -n <<< "$all" | head -1
 }
 
 # run WHO PLAN CALLS: that many calls of a run, RUN SIZE RECORDS, by the Rust, by its floor or by a program of the port

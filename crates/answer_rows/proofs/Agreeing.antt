@@ -13,7 +13,7 @@ use Rattle.call_values.specs.declared.answer.Answer.{Answer}
 use Rattle.call_values.specs.declared.answer.Answer.the-variants as answer
 use Rattle.call_values.specs.declared.call.Call.{Call}
 use Rattle.call_values.specs.declared.call.Call.the-variants as call
-use Rattle.answer_rows.specs.Said.{row, noGrantSaid, noSpanSaid, saidOf}
+use Rattle.answer_rows.specs.Said.{noGrantSaid, noSpanSaid, saidOf}
 use Rattle.answer_rows.specs.Claims.{answerIn}
 
 -- the answer that a row stands for

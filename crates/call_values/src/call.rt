@@ -1,4 +1,4 @@
-// A call as a value, for the list's rows and for the calls that are drawn.
+// A call as a value, for the list's rows.
 pub enum Call {
     // a store's size, and its count of records
     SetUp(u32, u32),

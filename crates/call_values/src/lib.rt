@@ -1,5 +1,3 @@
-// Calls, their answers, and the words before and after them, all as values: what is drawn, made, compared and judged.
+// Calls and their answers as values: what the rows of a list ask for, and what is held against them.
 pub mod answer;
 pub mod call;
-pub mod made;
-pub mod store;

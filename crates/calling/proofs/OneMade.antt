@@ -4,6 +4,10 @@ use Rattle.ledger.specs.Ledger.{Answer}
 use Rattle.tables.specs.Words.{Words, Edition}
 use Rattle.calls.specs.declared.Call.{Call}
 use Rattle.calls.specs.declared.Call.the-variants.{Take, HandBack, SetUp, Reset}
+use Rattle.calls.specs.Values.{says}
+use Rattle.calls.proofs.OneValue.{one-value}
+use Rattle.records.specs.InWords.{placedWords}
+use Rattle.records.proofs.InPlace.{placed}
 use Rattle.calling.specs.Makes.{Makes, OneMade}
 
 -- one model, one outcome
@@ -19,4 +23,9 @@ one-made E (SetUp size count) w v u a b p q = one a b v u (p .promised .exact) (
 one-made E Reset w v u a b p q = one a b v u (p .promised .exact) (q .promised .exact)
 
 pub one-of-them : (E : Edition) → OneMade E
-one-of-them E = record { one-made = one-made E }
+one-of-them E = record {
+  one-made = one-made E;
+  one-result = λ c w a b v u p q.
+      let same = one-made E c w (placedWords v) (placedWords u) (says a) (says b) p q in
+      (one-value .of-any a b (same .0), placed v u (same .1));
+}

@@ -7,6 +7,9 @@ use Rattle.tables.specs.Setup.{Lent, lentOf}
 use Rattle.tables.specs.Promise.{Promise, SetupPromise}
 use Rattle.calls.specs.declared.Call.{Call}
 use Rattle.calls.specs.declared.Call.the-variants.{Take, HandBack, SetUp, Reset}
+use Rattle.calls.specs.declared.Answer as code
+use Rattle.calls.specs.Values.{says}
+use Rattle.records.specs.InWords.{InPlace, placedWords}
 
 -- what a setup in place is lent of the words
 abbrev pub lentIn : Words → Lent
@@ -22,6 +25,8 @@ PromiseOf E Reset w v a = Promise E ledger.Reset w v a
 pub record Makes (E : Edition) (c : Call) (w v : Words) (a : Answer) : Type 0 where
   pub promised : PromiseOf E c w v a
 
--- any two outcomes that it allows coincide, and as values of the code too (`one-value` of calls); proofs/OneMade.antt makes it
+-- any two outcomes that it allows coincide, and as values of the code too: answer, totals, arrays and tables; proofs/OneMade.antt makes it
 pub record OneMade (E : Edition) : Type 0 where
   pub one-made : (c : Call) (w v u : Words) (a b : Answer) → Makes E c w v a → Makes E c w u b → (a ≡ b) × (v ≡ u)
+  pub one-result : (c : Call) (w : Words) (a b : code.Answer) (v u : InPlace) → Makes E c w (placedWords v) (says a)
+      → Makes E c w (placedWords u) (says b) → (a ≡ b) × (v ≡ u)

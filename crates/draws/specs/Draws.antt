@@ -15,6 +15,3 @@ highBelow seed (suc n) = highHalf seed % suc n
 -- the high halves of the next two seeds
 unfoldable pub wholeWord : ℕ → ℕ
 wholeWord seed = highHalf (nextSeed seed) * 65536 + highHalf (nextSeed (nextSeed seed))
-
-unfoldable pub branchSeed : ℕ → ℕ → ℕ
-branchSeed seed i = wholeWord ((seed + i) % 4294967296)

@@ -1,6 +1,6 @@
 // Seeded draws: a linear congruential generator, and the numbers that are made of its seeds. Whoever draws keeps the seed.
 ghost use mathlib.Core.Path.{_≡_};
-ghost use Rattle.draws.specs.Draws.{nextSeed, highHalf, highBelow, wholeWord, branchSeed};
+ghost use Rattle.draws.specs.Draws.{nextSeed, highHalf, highBelow, wholeWord};
 
 // The seed after this one.
 pub fn next(seed: u32) -> u32
@@ -33,12 +33,4 @@ pub fn word(seed: u32) -> u32
 {
     let first = next(seed);
     high_half(first) * 65536 + high_half(next(first))
-}
-
-// The i-th of the seeds that branch off from this one, for draws that do not follow one another.
-pub fn branch(seed: u32, i: u32) -> u32
-    ensures { λ r. ⌜ r ≡ branchSeed seed i ⌝ }
-{
-    let whole = (seed as u64) + (i as u64);
-    word((whole % 4294967296) as u32)
 }

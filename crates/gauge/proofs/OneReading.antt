@@ -1,7 +1,5 @@
 -- A reading is given by what it says, and so is the gauge that comes back. Assumes nothing.
 use mathlib.Core.Path.{_≡_, sym, ap, _∙_}
-use lib.Ieee as ieee
-use lib.Ieee.{binary32}
 use Rattle.basics.proofs.Clash.{clash}
 use Rattle.tables.specs.Words.{Edition}
 use Rattle.answers.proofs.Numbers.{number-means}
@@ -40,8 +38,5 @@ pub one-reading : (E : Edition) → OneReading E
 one-reading E = record {
   of-store = λ w g a b p q. one-taken a b (p .exact ∙ sym (q .exact));
   of-told = λ g told a b p q. one-taken a b (p ∙ sym q);
-  as-bits = λ a b e. (
-    ap (λ (x : Taken). ieee.toBits binary32 (x .watch .gauge .level)) e,
-    ap (λ (x : Taken). ieee.toBits binary32 (x .watch .gauge .peak)) e,
-  );
+  of-begun = λ a b p q. one-watch a b (p ∙ sym q);
 }

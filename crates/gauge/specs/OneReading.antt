@@ -1,12 +1,11 @@
 -- Any two results that a reading's contract allows are the same values of the code: the answer, with its floats, and the gauge that comes back.
 -- proofs/OneReading.antt makes it. Assumes nothing.
 use mathlib.Core.Path.{_≡_}
-use lib.Ieee as ieee
-use lib.Ieee.{binary32}
 use Rattle.ledger.specs.Ledger.{Answer}
 use Rattle.tables.specs.Words.{Words, Edition}
 use Rattle.gauge.specs.declared.Taken.{Taken}
-use Rattle.gauge.specs.Rule.{Watch}
+use Rattle.gauge.specs.declared.Watch as declared
+use Rattle.gauge.specs.Rule.{Watch, begun}
 use Rattle.gauge.specs.Answers.{readAfter, watchOf, readingSays}
 use Rattle.gauge.specs.Promise.{ReadPromise}
 
@@ -17,7 +16,5 @@ pub record OneReading (E : Edition) : Type 0 where
   -- by what the store told
   pub of-told : (g : Watch) (told : Answer) (a b : Taken) → (readingSays (a .answer), watchOf (a .watch)) ≡ readAfter g told
       → (readingSays (b .answer), watchOf (b .watch)) ≡ readAfter g told → a ≡ b
-  -- the same of bits: where two are the same value, they have the same pattern
-  pub as-bits : (a b : Taken) → a ≡ b
-      → (ieee.toBits binary32 (a .watch .gauge .level) ≡ ieee.toBits binary32 (b .watch .gauge .level))
-      × (ieee.toBits binary32 (a .watch .gauge .peak) ≡ ieee.toBits binary32 (b .watch .gauge .peak))
+  -- a gauge that is begun
+  pub of-begun : (a b : declared.Watch) → watchOf a ≡ begun → watchOf b ≡ begun → a ≡ b

@@ -57,7 +57,7 @@ fn put_line(
 }
 
 fn put_last(why: Broken, waiting: usize, out: &mut [u8; 65536]) -> usize {
-    let told = journal_lines::number(waiting, why.number() as u64, out);
+    let told = journal_lines::last(waiting, why, out);
     journal_lines::put(told, b"\n", out)
 }
 

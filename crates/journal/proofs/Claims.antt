@@ -6,7 +6,7 @@ use mathlib.Core.Logic.{_≢_}
 use mathlib.Core.List.{List, [], _∷_}
 use borrow.Author.Tests.{ne-eqb}
 use lib.ListN.{length, drop, getD, length-drop}
-use Rattle.basics.proofs.Decided.{Below, below, beyond, below?}
+use Rattle.basics.proofs.Decided.{below, beyond, below?}
 use Rattle.calls.specs.declared.Call.{Call}
 use Rattle.calls.specs.declared.Call.the-variants.{Take, HandBack, SetUp, Reset}
 use Rattle.journal.specs.declared.entry.Broken.the-variants.{Cut, UnknownKind, WrongLength}
@@ -21,7 +21,7 @@ use Rattle.journal.proofs.Outcomes.{one-writing}
 use Rattle.journal.proofs.ReadBack.{own-lengths, reads-back, written-holds}
 use Rattle.journal.proofs.WasWritten.{was-written}
 use Rattle.journal.proofs.Journals.{holds-some, holds-one, held-was-written}
-use Rattle.journal.proofs.Windows.{windowed, slid}
+use Rattle.journal.proofs.Windows.{windowed, all-needed, slid}
 
 example : journalOf exampleCalls ≡ exampleBytes
 unfolding journalOf recordOf bodyOf inFields inBytes
@@ -121,6 +121,7 @@ journal-claims = record {
   wrong-length = wrong-length;
   whole-exactly = whole-exactly;
   windowed = windowed;
+  all-needed = all-needed;
   slid = slid;
   are-bytes = are-bytes;
   take-fits = λ n h. (h, tt);

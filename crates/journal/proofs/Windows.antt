@@ -1,22 +1,25 @@
 -- A reading hangs on no more bytes than a record can have, and not on what stands before it. Assumes nothing.
-use Prim.Native.Nat.{ℕ, _+_, _*_, _≤_, _<_}
+use Prim.Native.Nat.{ℕ, zero, suc, _+_, _*_, _≤_, _<_}
 use native.Mathlib.Omega.{arith}
 use mathlib.Core.Path.{_≡_, refl, sym, ap, _∙_}
 use mathlib.Core.Bool.{Bool, true, false, cond}
 use mathlib.Core.Option.{Option, none, some}
-use mathlib.Core.List.{List, _++_}
+use mathlib.Core.Logic.{_≢_}
+use mathlib.Core.List.{List, [], _∷_, _++_}
 use lib.Dec.{eqb, ltb}
-use lib.ListN.{length, take, drop, length-append, length-drop, length-take}
+use lib.ListN.{length, take, drop, replicate, length-append, length-drop, length-take, length-replicate}
 use lib.Seq.{take-append-le, drop-append-le, drop-append-add}
+use Rattle.basics.proofs.Clash.{clash}
 use Rattle.basics.proofs.Decided.{below, beyond, below?}
 use Rattle.calls.specs.declared.Call.{Call}
+use Rattle.journal.specs.declared.entry.Broken.the-variants.{Cut, UnknownKind}
 use Rattle.journal.specs.declared.entry.Entry.{Entry}
-use Rattle.journal.specs.declared.entry.Entry.the-variants.{Read}
+use Rattle.journal.specs.declared.entry.Entry.the-variants.{Read, Refused}
 use Rattle.journal.specs.Bytes.{number, AllBytes}
 use Rattle.journal.specs.Writing.{bodyOf}
 use Rattle.journal.specs.Reading.{lengthIn, kindIn, fieldIn, callOf, judged, readHere, readAt}
 use Rattle.journal.specs.Claims.{window, movedOn}
-use Rattle.journal.proofs.Places.{here-low, here-whole}
+use Rattle.journal.proofs.Places.{here-cut, here-low, here-whole}
 use Rattle.journal.proofs.WasWritten.{all-left, all-taken, number-below}
 
 -- numbers that are taken from the first bytes, whatever follows
@@ -72,6 +75,34 @@ unfolding readAt
 windowed bytes more at all room =
     ap (λ (here : List ℕ). readHere here at) (drop-append-le at bytes more (omega (arith, room)))
     ∙ here-windowed (drop at bytes) more at (all-left at bytes all) (omega (arith, room, length-drop at bytes))
+
+-- ---- one byte less is too few: a record of no kind, its length the greatest, is cut or not by the last one
+noughts : (n : ℕ) → AllBytes (replicate n 0)
+noughts zero = tt
+noughts (suc n) = (omega arith, noughts n)
+
+longest : ℕ → List ℕ
+longest n = 255 ∷ 255 ∷ 0 ∷ 0 ∷ replicate n 0
+
+last-sways : (n : ℕ) → n + 5 ≡ window → readAt (longest n ++ (0 ∷ [])) 0 ≢ readAt (longest n) 0
+unfolding readAt longest lengthIn kindIn number callOf judged
+last-sways n h e =
+    let many : length {A = ℕ} (replicate n 0) ≡ n = length-replicate n 0 in
+    let more : length {A = ℕ} (replicate n 0 ++ (0 ∷ [])) ≡ length {A = ℕ} (replicate n 0) + 1 = length-append (replicate n 0) (0 ∷ []) in
+    let cut : readHere (longest n) 0 ≡ Refused Cut = here-cut (longest n) 0 (omega arith) (omega (arith, h, many)) in
+    let whole : readHere (longest n ++ (0 ∷ [])) 0 ≡ Refused UnknownKind =
+    here-whole (longest n ++ (0 ∷ [])) 0 (omega arith) (omega (arith, h, many, more)) (omega arith) in
+    clash (cc)
+
+needed : (n : ℕ) → n + 5 ≡ window
+    → (bytes : List ℕ) × (more : List ℕ) × AllBytes bytes × (length bytes + 1 ≡ window) × (readAt (bytes ++ more) 0 ≢ readAt bytes 0)
+unfolding longest
+needed n h =
+    let many : length {A = ℕ} (replicate n 0) ≡ n = length-replicate n 0 in
+    (longest n, 0 ∷ [], (omega arith, (omega arith, (omega arith, (omega arith, noughts n)))), omega (arith, h, many), last-sways n h)
+
+pub all-needed : (bytes : List ℕ) × (more : List ℕ) × AllBytes bytes × (length bytes + 1 ≡ window) × (readAt (bytes ++ more) 0 ≢ readAt bytes 0)
+all-needed = needed 65532 refl
 
 -- ---- further on
 moved-choice : (k : ℕ) (t : Bool) (a b c d : Entry) → a ≡ movedOn k c → b ≡ movedOn k d → cond t a b ≡ movedOn k (cond t c d)

@@ -4,7 +4,6 @@ use mathlib.Core.Logic.{_≢_}
 use mathlib.Core.List.{List, [], _∷_, _++_}
 use Prim.Native.Nat.{ℕ, _+_, _^_, _≤_, _<_}
 use lib.ListN.{length, take, drop, getD}
-use Rattle.small_float.specs.declared.Size.{Size}
 use Rattle.calls.specs.declared.Call.{Call}
 use Rattle.calls.specs.declared.Call.the-variants.{Take, HandBack, SetUp, Reset}
 use Rattle.calls.specs.Values.{Fits}
@@ -96,6 +95,8 @@ pub record JournalClaims : Type 0 where
   -- ---- a reader may look at part of a journal only: what stands behind as many bytes as a record can have sways nothing, and neither does what
   -- was read before
   pub windowed : (bytes more : List ℕ) (at : ℕ) → AllBytes bytes → at + window ≤ length bytes → readAt (bytes ++ more) at ≡ readAt bytes at
+  -- and no fewer bytes would do: one less, and what stands behind them sways the reading
+  pub all-needed : (bytes : List ℕ) × (more : List ℕ) × AllBytes bytes × (length bytes + 1 ≡ window) × (readAt (bytes ++ more) 0 ≢ readAt bytes 0)
   pub slid : (before bytes : List ℕ) (at : ℕ) → readAt (before ++ bytes) (length before + at) ≡ movedOn (length before) (readAt bytes at)
   -- ---- numbers below 256 are bytes, and every call whose numbers are below 2^32 fits, so that what is claimed of them is claimed of all
   pub are-bytes : (bytes : List ℕ) → ((i : ℕ) → i < length bytes → getD bytes i 0 < 256) → AllBytes bytes

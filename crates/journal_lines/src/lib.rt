@@ -65,9 +65,16 @@ pub fn answer(waiting: usize, answer: Answer, out: &mut [u8; 65536]) -> usize {
     put_front(waiting, &line, n, out)
 }
 
-// The number of what ends a journal, and what it stands for.
+// What it prints last, where a record cannot be read.
+pub fn last(waiting: usize, why: Broken, out: &mut [u8; 65536]) -> usize {
+    let mut line = [0u8; 32];
+    let n = writing::line_of_broken(why, &mut line);
+    put_front(waiting, &line, n, out)
+}
+
+// The same, and what it stands for.
 pub fn broken(waiting: usize, why: Broken, out: &mut [u8; 65536]) -> usize {
-    let told = number(waiting, why.number() as u64, out);
+    let told = last(waiting, why, out);
     match why {
         Broken::Cut => put(told, b": cut", out),
         Broken::UnknownKind => put(told, b": an unknown kind", out),

@@ -11,7 +11,7 @@ use Rattle.journal_text.specs.Lines.{lineIn}
 use Rattle.journal_text.specs.Facts.{TextFacts}
 use Rattle.journal_text.proofs.Decimals.{makes-up}
 use Rattle.journal_text.proofs.ReadBack.{reads-back}
-use Rattle.journal_text.proofs.OtherSide.{digits-only, no-zero-in-front, no-others, reads-fitting, one-answer}
+use Rattle.journal_text.proofs.OtherSide.{digits-only, no-zero-in-front, no-others, reads-fitting, one-answer, last-is-no-answer, one-last}
 
 one-text : (c d : Call) → Fits c → Fits d → textOf c ≡ textOf d → c ≡ d
 one-text c d p q e =
@@ -34,6 +34,8 @@ text-facts = record {
   one-text = one-text;
   reads-fitting = reads-fitting;
   one-answer = one-answer;
+  last-is-no-answer = last-is-no-answer;
+  one-last = one-last;
   one-line-put = one-line-put;
   one-line-read = one-line-read;
 }

@@ -1,9 +1,10 @@
--- A number's digits from the other side, the fields that a line can hold, and an answer told by its line. Assumes nothing.
+-- A number's digits from the other side, the fields that a line can hold, and an answer and a last line told by their lines. Assumes nothing.
 use Prim.Native.Nat.{ℕ, zero, suc, _+_, _-_, _*_, _/_, _%_, _^_, _≤_, _<_}
 use native.Mathlib.Omega.{arith}
 use mathlib.Core.Path.{_≡_, refl, sym, ap, ap₂, subst, _∙_}
 use mathlib.Core.Bool.{Bool, true, false, cond}
-use mathlib.Core.List.{List, [], _∷_, _++_}
+use mathlib.Core.Logic.{_≢_}
+use mathlib.Core.List.{List, [], _∷_, _++_, append-nil}
 use lib.Dec.{eqb}
 use lib.ListN.{length, take, getD, List·getD-append}
 use lib.Seq.{take-suc, take-all, length-take-le, getD-take}
@@ -16,13 +17,16 @@ use Rattle.calls.specs.declared.Call.{Call}
 use Rattle.calls.specs.declared.Call.the-variants.{Take, HandBack, SetUp}
 use Rattle.calls.specs.declared.Answer.{Answer}
 use Rattle.calls.specs.declared.Answer.the-variants as answer
+use Rattle.journal.specs.declared.entry.Broken.{Broken}
+use Rattle.journal.specs.Refusals.{brokenNumber}
+use Rattle.journal.proofs.RefusalNumbers.{journal-numbers}
 use Rattle.journal_text.specs.declared.line.Fault.{Fault}
 use Rattle.journal_text.specs.declared.line.Line.{Line}
 use Rattle.journal_text.specs.declared.line.Line.the-variants.{Holds, Blank, Bad}
 use Rattle.journal_text.specs.declared.line.Value.{Value}
 use Rattle.journal_text.specs.declared.line.Value.the-variants.{Is, Wrong}
 use Rattle.journal_text.specs.Decimal.{decimal, spaced}
-use Rattle.journal_text.specs.Texts.{takeWord, backWord, setUpWord, resetWord, answerText, figuresOf}
+use Rattle.journal_text.specs.Texts.{takeWord, backWord, setUpWord, resetWord, answerText, brokenText, figuresOf}
 use Rattle.journal_text.specs.Words.{isDigit, leading, onlyBlanks, trimmed, wordIn, behindWord, same}
 use Rattle.journal_text.specs.Lines.{madeOn, valued, numberOf, ended, lastNumber, holds, holdsTwo, resets, callIn, lineIn}
 use Rattle.journal_text.specs.Facts.{Digits, NoZeroInFront}
@@ -210,12 +214,12 @@ reads-fitting text c e = call-of (line-fits text) c e
 same-decimal : (n m : ℕ) → decimal n ≡ decimal m → n ≡ m
 same-decimal n m e = sym (makes-up n) ∙ ap (λ (text : List ℕ). madeOn 0 text) e ∙ makes-up m
 
-same-number : (a b : Answer) → answerText a ≡ answerText b → refusalOf (says a) ≡ refusalOf (says b)
+first-word : (a : Answer) → wordIn (answerText a) ≡ decimal (refusalOf (says a))
 unfolding answerText
-same-number a b e =
-    let word : (x : Answer) → wordIn (answerText x) ≡ decimal (refusalOf (says x)) =
-    λ x. word-first (decimal (refusalOf (says x))) (spaced (figuresOf x)) (decimal-word _) (spaced-stops (figuresOf x)) in
-    same-decimal _ _ (sym (word a) ∙ ap (λ (text : List ℕ). wordIn text) e ∙ word b)
+first-word a = word-first (decimal (refusalOf (says a))) (spaced (figuresOf a)) (decimal-word _) (spaced-stops (figuresOf a))
+
+same-number : (a b : Answer) → answerText a ≡ answerText b → refusalOf (says a) ≡ refusalOf (says b)
+same-number a b e = same-decimal _ _ (sym (first-word a) ∙ ap (λ (text : List ℕ). wordIn text) e ∙ first-word b)
 
 same-figures : (a b : Answer) → answerText a ≡ answerText b → spaced (figuresOf a) ≡ spaced (figuresOf b)
 unfolding answerText
@@ -254,3 +258,25 @@ one-answer (answer.Refused why) (answer.Granted span) e =
     absurd (not-none _ _ (sym (same-figures (answer.Refused why) (answer.Granted span) e)))
 one-answer (answer.Refused why) (answer.Refused other) e =
     ap answer.Refused (number-means .none-shared why other (same-number (answer.Refused why) (answer.Refused other) e))
+
+-- ---- a last line, told by its number, which no answer has
+answer-number : (a : Answer) → refusalOf (says a) ≤ 8
+answer-number answer.Done = omega arith
+answer-number (answer.Granted span) = omega arith
+answer-number (answer.Refused why) = number-means .in-range why .1
+
+last-word : (why : Broken) → wordIn (brokenText why) ≡ decimal (brokenNumber why)
+unfolding brokenText spaced
+last-word why =
+    ap (λ (text : List ℕ). wordIn text) (sym (append-nil (decimal (brokenNumber why))))
+    ∙ word-first (decimal (brokenNumber why)) [] (decimal-word _) (spaced-stops [])
+
+pub last-is-no-answer : (why : Broken) (a : Answer) → brokenText why ≢ answerText a
+last-is-no-answer why a e =
+    let number : brokenNumber why ≡ refusalOf (says a) =
+    same-decimal _ _ (sym (last-word why) ∙ ap (λ (text : List ℕ). wordIn text) e ∙ first-word a) in
+    omega (arith, number, journal-numbers .reader's why .0, answer-number a)
+
+pub one-last : (why other : Broken) → brokenText why ≡ brokenText other → why ≡ other
+unfolding brokenText
+one-last why other e = journal-numbers .none-shared why other (same-decimal _ _ e)

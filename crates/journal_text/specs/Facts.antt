@@ -1,15 +1,17 @@
 -- What the definitions beside this file give a reader to rely on. One record, which proofs/Facts.antt makes. Assumes nothing.
 use Prim.Native.Nat.{ℕ, _≤_, _<_}
 use mathlib.Core.Path.{_≡_}
+use mathlib.Core.Logic.{_≢_}
 use mathlib.Core.List.{List}
 use lib.ListN.{length, getD}
 use Rattle.calls.specs.Values.{Fits}
 use Rattle.calls.specs.declared.Call.{Call}
 use Rattle.calls.specs.declared.Answer.{Answer}
+use Rattle.journal.specs.declared.entry.Broken.{Broken}
 use Rattle.journal_text.specs.declared.line.Line.{Line}
 use Rattle.journal_text.specs.declared.line.Line.the-variants.{Holds}
 use Rattle.journal_text.specs.Decimal.{decimal}
-use Rattle.journal_text.specs.Texts.{textOf, answerText, Leads}
+use Rattle.journal_text.specs.Texts.{textOf, answerText, brokenText, Leads}
 use Rattle.journal_text.specs.Lines.{madeOn, lineIn}
 
 -- digits, 0 to 9, and one at least
@@ -33,6 +35,9 @@ pub record TextFacts : Type 0 where
   pub reads-fitting : (text : List ℕ) (c : Call) → lineIn text ≡ Holds c → Fits c
   -- two answers with one line are one
   pub one-answer : (a b : Answer) → answerText a ≡ answerText b → a ≡ b
+  -- nor is a last line an answer's; and what it was refused for is told by it
+  pub last-is-no-answer : (why : Broken) (a : Answer) → brokenText why ≢ answerText a
+  pub one-last : (why other : Broken) → brokenText why ≡ brokenText other → why ≡ other
   -- any two results that a contract allows coincide
   pub one-line-put : {text before after other : List ℕ} {n m : ℕ} → Leads text before after n → Leads text before other m → (n ≡ m) × (after ≡ other)
   pub one-line-read : (text : List ℕ) (r s : Line) → r ≡ lineIn text → s ≡ lineIn text → r ≡ s

@@ -1,4 +1,4 @@
--- The line of a call, and the line that a replay prints for an answer; neither has its newline. Assumes nothing.
+-- The line of a call, the line that a replay prints for an answer, and its last line where a record cannot be read; none has its newline. Assumes nothing.
 use Prim.Native.Nat.{ℕ, _+_, _≤_}
 use mathlib.Core.Path.{_≡_}
 use mathlib.Core.List.{List, [], _∷_, _++_}
@@ -10,6 +10,8 @@ use Rattle.calls.specs.declared.Call.{Call}
 use Rattle.calls.specs.declared.Call.the-variants.{Take, HandBack, SetUp, Reset}
 use Rattle.calls.specs.declared.Answer.{Answer}
 use Rattle.calls.specs.declared.Answer.the-variants.{Done, Granted, Refused}
+use Rattle.journal.specs.declared.entry.Broken.{Broken}
+use Rattle.journal.specs.Refusals.{brokenNumber}
 use Rattle.journal_text.specs.Decimal.{decimal, spaced}
 
 -- the four words, in bytes: take, back, setup, reset
@@ -44,6 +46,10 @@ figuresOf (Refused why) = []
 -- "refusal number or 0, then a granted take's offset and record, in decimal, a space between"
 unfoldable pub answerText : Answer → List ℕ
 answerText a = decimal (refusalOf (says a)) ++ spaced (figuresOf a)
+
+-- a refused record "ends the replay there": its number, alone on the last line
+unfoldable pub brokenText : Broken → List ℕ
+brokenText why = decimal (brokenNumber why)
 
 -- A text put into lent bytes from a place on, where it has room, told by the place behind it; the other bytes stay.
 pub record PutAt (text before : List ℕ) (at : ℕ) (after : List ℕ) (behind : ℕ) : Type 0 where

@@ -1,16 +1,15 @@
-// A call, and an answer, as a line of text in bytes that are lent; no newline. Numbers are written from their last digit to their first, at their
-// place, so that a replay spends one turn on a digit to count them and one to write them.
+// A call, an answer, and what ends a replay, as a line of text in bytes that are lent; no newline. Numbers are written from their last digit to their
+// first, at their place, so that a replay spends one turn on a digit to count them and one to write them.
 ghost use mathlib.Core.Path.{_≡_};
 ghost use mathlib.Core.List.{[], _∷_, _++_};
 ghost use Prim.Native.Nat.{_+_, _<_, _≤_};
 ghost use lib.ListN.{length};
-ghost use Rattle.calls.specs.Values.{says};
-ghost use Rattle.ledger.specs.Figures.{refusalOf};
 ghost use Rattle.journal_text.specs.Decimal.{decimal, spaced};
-ghost use Rattle.journal_text.specs.Texts.{textOf, answerText, PutAt, Leads};
+ghost use Rattle.journal_text.specs.Texts.{textOf, answerText, brokenText, PutAt, Leads};
 use answers::Allocation;
 use calls::Answer;
 use calls::Call;
+use journal::entry::Broken;
 
 fn digit(d: u32) -> u8
     requires { ⌜ d < 10 ⌝ }
@@ -142,4 +141,11 @@ pub fn line_of_answer(answer: Answer, out: &mut [u8; 32]) -> usize
     ensures { λ r. ⌜ Leads (answerText answer) (now (out .entry)) (now (out .exit)) r ⌝ }
 {
     put_answer(answer, out)
+}
+
+// And the last one, where a record cannot be read.
+pub fn line_of_broken(why: Broken, out: &mut [u8; 32]) -> usize
+    ensures { λ r. ⌜ Leads (brokenText why) (now (out .entry)) (now (out .exit)) r ⌝ }
+{
+    put_plain(why.number(), out)
 }

@@ -66,18 +66,26 @@ pub fn print_sum(journals: u32, sum: u32) {
     line(b" ", sum as u64);
 }
 
+// The count at a place, behind a text and the place's number.
+fn numbered(text: &[u8], place: u32, tally: &[u64; 16]) {
+    let i = (place % 16) as usize;
+    io::write_all(STDOUT_FILENO, text);
+    io::print_decimal(STDOUT_FILENO, place as u64);
+    line(b" ", tally[i]);
+}
+
+// Those of the places from one on, up to another.
+fn numbered_from(text: &[u8], first: u32, end: u32, tally: &[u64; 16]) {
+    for place in first..end {
+        numbered(text, place, tally);
+    }
+}
+
 pub fn print(tally: &[u64; 16]) {
     line(b"end ", tally[9]);
-    line(b"13 ", tally[13]);
-    line(b"14 ", tally[14]);
-    line(b"15 ", tally[15]);
+    numbered_from(b"", 13, 16, tally);
     line(b"granted ", tally[7]);
-    line(b"refused 1 ", tally[1]);
-    line(b"refused 2 ", tally[2]);
-    line(b"refused 3 ", tally[3]);
-    line(b"refused 4 ", tally[4]);
-    line(b"refused 5 ", tally[5]);
-    line(b"refused 6 ", tally[6]);
-    line(b"refused 8 ", tally[8]);
+    numbered_from(b"refused ", 1, 7, tally);
+    numbered(b"refused ", 8, tally);
     line(b"done ", tally[0]);
 }

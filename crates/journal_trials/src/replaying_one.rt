@@ -41,7 +41,7 @@ fn last_line(going: Going, why: Broken, out: &mut [u8; 65536]) -> usize {
     if !going.shown {
         return 0;
     }
-    let told = journal_lines::number(going.waiting, why.number() as u64, out);
+    let told = journal_lines::last(going.waiting, why, out);
     journal_lines::put(told, b"\n", out)
 }
 

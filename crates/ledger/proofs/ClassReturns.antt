@@ -1,5 +1,5 @@
 -- A hand-back by classes: the merged region on top of its class, the records of its neighbours out of their stacks. Assumes nothing.
-use mathlib.Core.Path.{_≡_, refl, sym, ap, _∙_, subst}
+use mathlib.Core.Path.{_≡_, refl, sym, ap, _∙_}
 use Prim.Native.Nat.{ℕ, _+_, _≤_}
 use native.Mathlib.Omega.{arith}
 use mathlib.Core.Bool.{cond}
@@ -17,11 +17,11 @@ use Rattle.ledger.specs.Calls.{spanOf, handsBack}
 use Rattle.ledger.specs.WellFormed.{WellFormed, has}
 use Rattle.ledger.specs.Spans.{At}
 use Rattle.ledger.specs.Claims.{lacking, ClassReturn}
-use Rattle.ledger.proofs.Places.{Between, between-at, sum-at, same-place}
+use Rattle.ledger.proofs.Places.{Between, sum-at}
 use Rattle.ledger.proofs.Records.{once-in-line}
 use Rattle.ledger.proofs.KeptLine.{side-has}
 use Rattle.ledger.proofs.KeptStacks.{stands-le, side-stands}
-use Rattle.ledger.proofs.Cases.{Held, held}
+use Rattle.ledger.proofs.Cases.{held}
 use Rattle.ledger.proofs.Returns.{merged, return-of}
 
 -- ---- a stack without records

@@ -3,6 +3,7 @@ use mathlib.Core.Path.{_≡_, refl, ap, subst, fun-ext}
 use Prim.Native.Nat.{ℕ, _+_, _≤_, _<_}
 use native.Mathlib.Omega.{arith}
 use mathlib.Core.Bool.{cond}
+use mathlib.Core.Option as option
 use mathlib.Core.Logic.{_↔_, _⊎_, inl, inr, _≢_}
 use mathlib.Core.List.{List, [], _∷_, _++_}
 use lib.ListN.{length}
@@ -11,7 +12,7 @@ use Rattle.basics.specs.Sum.{tally}
 use Rattle.basics.proofs.Clash.{clash}
 use Rattle.small_float.specs.Class.{down}
 use Rattle.basics.proofs.Decided.{Same, same, differ, same?, Below, below, beyond, below?}
-use Rattle.ledger.specs.Ledger.{Region, live, free, len, Stacks, onTop, Answer, granted, done, refused}
+use Rattle.ledger.specs.Ledger.{Region, live, free, len, Stacks, onTop, Answer, granted, done, length-is, reported, classes, refused, Ledger, Spot, grant, by-class}
 use Rattle.ledger.specs.Calls.{Request, Token, Question, SizeOf, Call, Take, HandBack, Reset, Ask, takes, hands-back, spanOf, event}
 use Rattle.ledger.specs.Spans.{At, first, later, FreeIn, Among, Disjoint, Leaves, AllLeave}
 use Rattle.ledger.specs.History.{Span, note, liveOne}
@@ -184,6 +185,33 @@ question-notes-nothing : (q : Question) (a : Answer) (out : List Span) → note 
 unfolding note
 question-notes-nothing q a out = refl
 
+take-notes-grants : (asked : Request) (a : Answer) (out : List Span) → ((o r : ℕ) → a ≢ granted o r) → note (event (Take asked) a) out ≡ out
+unfolding note
+take-notes-grants asked (granted o r) out h = absurd (h o r refl)
+take-notes-grants asked done out h = refl
+take-notes-grants asked (length-is n) out h = refl
+take-notes-grants asked (reported n m) out h = refl
+take-notes-grants asked (classes rows) out h = refl
+take-notes-grants asked (refused k) out h = refl
+
+return-notes-done : (span : Token) (a : Answer) (out : List Span) → a ≢ done → note (event (HandBack span) a) out ≡ out
+unfolding note
+return-notes-done span (granted o r) out h = refl
+return-notes-done span done out h = absurd (h refl)
+return-notes-done span (length-is n) out h = refl
+return-notes-done span (reported n m) out h = refl
+return-notes-done span (classes rows) out h = refl
+return-notes-done span (refused k) out h = refl
+
+reset-notes-done : (a : Answer) (out : List Span) → a ≢ done → note (event Reset a) out ≡ out
+unfolding note
+reset-notes-done (granted o r) out h = refl
+reset-notes-done done out h = absurd (h refl)
+reset-notes-done (length-is n) out h = refl
+reset-notes-done (reported n m) out h = refl
+reset-notes-done (classes rows) out h = refl
+reset-notes-done (refused k) out h = refl
+
 grant-notes-one : (s o r : ℕ) (out : List Span)
     → note (event (takes s) (granted o r)) out ≡ record { offset = o; size = s; number = r } ∷ out
 unfolding note
@@ -201,6 +229,14 @@ return-strikes-no-other o r out h = strikes-no-other (spanOf o r) out h
 reset-strikes-all : (out : List Span) → note (event Reset done) out ≡ []
 unfolding note
 reset-strikes-all out = refl
+
+none-granted : (s : ℕ) (l : Ledger Stacks) → grant by-class s l option.none ≡ (refused 6, l)
+unfolding grant
+none-granted s l = refl
+
+live-not-granted : (s n r : ℕ) (l : Ledger Stacks) (z : Spot) → z .here ≡ live n r → grant by-class s l (option.some z) ≡ (refused 6, l)
+unfolding grant
+live-not-granted s n r l z e = rw e refl
 
 pub meanings : Meanings
 meanings = record {
@@ -233,8 +269,13 @@ meanings = record {
   numbers-each = numbers-each;
   refusal-notes-nothing = refusal-notes-nothing;
   question-notes-nothing = question-notes-nothing;
+  take-notes-grants = take-notes-grants;
+  return-notes-done = return-notes-done;
+  reset-notes-done = reset-notes-done;
   grant-notes-one = grant-notes-one;
   return-strikes-one = return-strikes-one;
   return-strikes-no-other = return-strikes-no-other;
   reset-strikes-all = reset-strikes-all;
+  none-granted = none-granted;
+  live-not-granted = live-not-granted;
 }

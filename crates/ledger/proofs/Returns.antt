@@ -1,5 +1,5 @@
 -- A hand-back: what the region merges with, where the merged one lies, what goes onto the pile, and that no other region changes. Assumes nothing.
-use mathlib.Core.Path.{_≡_, refl, sym, ap, _∙_, subst}
+use mathlib.Core.Path.{_≡_, refl, sym, ap, _∙_}
 use Prim.Native.Nat.{ℕ, _+_}
 use native.Mathlib.Omega.{arith}
 use mathlib.Core.Logic.{_≢_}
@@ -12,11 +12,10 @@ use Rattle.ledger.specs.Calls.{spanOf, handsBack}
 use Rattle.ledger.specs.WellFormed.{WellFormed, Apart}
 use Rattle.ledger.specs.Spans.{At}
 use Rattle.ledger.specs.Claims.{NoneOrFree, none-there, one-there, Return}
-use Rattle.ledger.proofs.Places.{Between, between-at, at-front, same-place}
+use Rattle.ledger.proofs.Places.{Between, at-front}
 use Rattle.ledger.proofs.Apart.{apart-sides}
-use Rattle.ledger.proofs.Records.{once-in-line}
 use Rattle.ledger.proofs.KeptLine.{side-len}
-use Rattle.ledger.proofs.Cases.{Held, held}
+use Rattle.ledger.proofs.Cases.{held}
 
 -- ---- a side, the nearest region first: the free region that is merged, if there is one
 unfoldable pub merged : List Region → List Region

@@ -7,7 +7,8 @@ use mathlib.Core.List.{List, [], _∷_, _++_}
 use lib.ListN.{length, getD}
 use Rattle.basics.specs.Sum.{tally}
 use Rattle.small_float.specs.Class.{down}
-use Rattle.ledger.specs.Ledger.{Region, live, free, len, Stacks, onTop, numbersFrom, Answer, granted, done, refused}
+use mathlib.Core.Option.{none, some}
+use Rattle.ledger.specs.Ledger.{Region, live, free, len, Stacks, onTop, numbersFrom, Answer, granted, done, refused, Ledger, Spot, grant, by-class}
 use Rattle.ledger.specs.Calls.{Request, Token, Question, SizeOf, Call, Take, HandBack, Reset, Ask, takes, hands-back, spanOf, Event, event}
 use Rattle.ledger.specs.Spans.{At, FreeIn, Among, Disjoint, Leaves, AllLeave}
 use Rattle.ledger.specs.History.{Span, note, liveOne}
@@ -72,6 +73,10 @@ pub record Meanings : Type 0 where
   -- ---- the history: a refused call, a reset among them, and a question leave the spans that are out
   pub refusal-notes-nothing : (c : Call) (k : ℕ) (out : List Span) → note (event c (refused k)) out ≡ out
   pub question-notes-nothing : (q : Question) (a : Answer) (out : List Span) → note (event (Ask q) a) out ≡ out
+  -- nor does an answer that is none of the call's
+  pub take-notes-grants : (asked : Request) (a : Answer) (out : List Span) → ((o r : ℕ) → a ≢ granted o r) → note (event (Take asked) a) out ≡ out
+  pub return-notes-done : (span : Token) (a : Answer) (out : List Span) → a ≢ done → note (event (HandBack span) a) out ≡ out
+  pub reset-notes-done : (a : Answer) (out : List Span) → a ≢ done → note (event Reset a) out ≡ out
   -- a grant adds one span; a return that is done strikes the last such, and no other; a reset that is done strikes all
   pub grant-notes-one : (s o r : ℕ) (out : List Span)
       → note (event (takes s) (granted o r)) out ≡ record { offset = o; size = s; number = r } ∷ out
@@ -82,3 +87,6 @@ pub record Meanings : Type 0 where
       → ((xs ys : List Span) (x : Span) → out ≡ xs ++ (x ∷ ys) → spanOf (x .offset) (x .number) ≢ spanOf o r)
       → note (event (hands-back o r) done) out ≡ out
   pub reset-strikes-all : (out : List Span) → note (event Reset done) out ≡ []
+  -- ---- what never comes in a ledger in order: where no region is found, or one that is live, nothing is granted and nothing changes
+  pub none-granted : (s : ℕ) (l : Ledger Stacks) → grant by-class s l none ≡ (refused 6, l)
+  pub live-not-granted : (s n r : ℕ) (l : Ledger Stacks) (z : Spot) → z .here ≡ live n r → grant by-class s l (some z) ≡ (refused 6, l)

@@ -23,11 +23,10 @@ pub record AllLent : Type 0 where
 abbrev pub lentWords : AllLent → Words
 lentWords v = wordsOf (ofArray (v .scalars)) (v .binIndices) (v .usedBins) (v .nodes) (v .pile)
 
-abbrev pub Five : AllLent → Type 0
-Five v = length (v .scalars) ≡ 5
-
 pub record OneLentResult (E : Edition) : Type 0 where
-  pub of-take : (c : Call) (w : Words) (a b : TakeAnswer) (v u : AllLent) → Five v → Five u → Promise E c w (lentWords v) (takeSays a)
+  pub of-take : (c : Call) (w : Words) (a b : TakeAnswer) (v u : AllLent) → length (v .scalars) ≡ 5 → length (u .scalars) ≡ 5
+      → Promise E c w (lentWords v) (takeSays a)
       → Promise E c w (lentWords u) (takeSays b) → (a ≡ b) × (v ≡ u)
-  pub of-back : (c : Call) (w : Words) (a b : BackAnswer) (v u : AllLent) → Five v → Five u → Promise E c w (lentWords v) (backSays a)
+  pub of-back : (c : Call) (w : Words) (a b : BackAnswer) (v u : AllLent) → length (v .scalars) ≡ 5 → length (u .scalars) ≡ 5
+      → Promise E c w (lentWords v) (backSays a)
       → Promise E c w (lentWords u) (backSays b) → (a ≡ b) × (v ≡ u)

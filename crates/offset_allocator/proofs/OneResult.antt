@@ -8,21 +8,13 @@ use Rattle.tables.proofs.Promise.{answers-same, words-same, one-setup}
 use Rattle.answers.proofs.OneValue.{one-value}
 use Rattle.records.specs.declared.totals.Totals.{Totals}
 use Rattle.records.specs.InWords.{wordsOf, totalsIn}
-use Rattle.offset_allocator.specs.OneResult.{InPlace, ByValue, Form, in-place, by-value, OneResult}
+use Rattle.records.proofs.InPlace.{placed}
+use Rattle.offset_allocator.specs.OneResult.{ByValue, Form, in-place, by-value, OneResult, OneResultInBoth}
 
 -- ---- words fix what they are made of
 module _ (t u : Totals) (hs ls ns ps gs ks ms qs : List ℕ) (e : wordsOf t hs ls ns ps ≡ wordsOf u gs ks ms qs) where
   same-totals : t ≡ u
   same-totals = ap totalsIn e
-
-placed : (v u : InPlace) → in-place .words v ≡ in-place .words u → v ≡ u
-placed v u e = λ i. record {
-  totals = same-totals (v .totals) (u .totals) (v .binIndices) (v .usedBins) (v .nodes) (v .pile) (u .binIndices) (u .usedBins) (u .nodes) (u .pile) e i;
-  binIndices = e i .binIndices;
-  usedBins = e i .usedBins;
-  nodes = e i .nodes;
-  pile = e i .pile;
-}
 
 valued : (v u : ByValue) → by-value .words v ≡ by-value .words u → v ≡ u
 valued v u e = λ i. record {
@@ -56,8 +48,5 @@ one-result-in E F fixed = record {
   );
 }
 
-pub one-result-in-place : (E : Edition) → OneResult E in-place
-one-result-in-place E = one-result-in E in-place placed
-
-pub one-result-by-value : (E : Edition) → OneResult E by-value
-one-result-by-value E = one-result-in E by-value valued
+pub one-result : (E : Edition) → OneResultInBoth E
+one-result E = record { placed = one-result-in E in-place placed; valued = one-result-in E by-value valued }

@@ -17,19 +17,11 @@ use Rattle.answers.specs.declared.FullAnswer.{FullAnswer}
 use Rattle.answers.specs.declared.FillAnswer.{FillAnswer}
 use Rattle.answers.specs.declared.AuditAnswer.{AuditAnswer}
 use Rattle.answers.specs.Answers.{startSays, takeSays, backSays, sizeSays, reportSays, fillSays, fullSays, AllPlaces, FiguresOfZero, auditSays}
-use Rattle.records.specs.declared.totals.Totals.{Totals}
-use Rattle.records.specs.InWords.{wordsOf}
+use Rattle.records.specs.InWords.{InPlace, placedWords}
 use Rattle.offset_allocator.specs.declared.head.Head.{Head}
 use Rattle.offset_allocator.specs.HeadWords.{headWords}
 
--- what a call leaves, in place and by value
-pub record InPlace : Type 0 where
-  pub totals : Totals
-  pub binIndices : List ℕ
-  pub usedBins : List ℕ
-  pub nodes : List ℕ
-  pub pile : List ℕ
-
+-- what a call by value leaves
 pub record ByValue : Type 0 where
   pub head : Head
   pub nodes : List ℕ
@@ -41,7 +33,7 @@ pub record Form : Type 1 where
   pub words : Left → Words
 
 abbrev pub in-place : Form
-in-place = record { Left = InPlace; words = λ v. wordsOf (v .totals) (v .binIndices) (v .usedBins) (v .nodes) (v .pile) }
+in-place = record { Left = InPlace; words = placedWords }
 
 abbrev pub by-value : Form
 by-value = record { Left = ByValue; words = λ v. headWords (v .head) (v .nodes) (v .pile) }
@@ -66,3 +58,8 @@ pub record OneResult (E : Edition) (F : Form) : Type 0 where
       → a ≡ b
   pub of-audit : (w : Words) (scratch left other : List ℕ) (a b : AuditAnswer) → AuditPromise E w scratch left (auditSays a)
       → AuditPromise E w scratch other (auditSays b) → (a ≡ b) × (left ≡ other)
+
+-- in both forms, under any edition
+pub record OneResultInBoth (E : Edition) : Type 0 where
+  pub placed : OneResult E in-place
+  pub valued : OneResult E by-value

@@ -19,7 +19,6 @@ pub enum Asked {
     HandBack(Packet),
     // so many bytes, the first of which is this; each other is one more
     Fill(Packet, u32, u8),
-    Read(Packet),
     Ask(Question),
 }
 
@@ -32,7 +31,6 @@ pub fn make(asked: Asked, before: Sides) -> Made {
         Asked::Fill(packet, many, first) => {
             filling::fill(packet, filling::counted_from(first), many, before)
         }
-        Asked::Read(packet) => questions::read(packet, before),
         Asked::Ask(question) => questions::ask(question, before),
     }
 }

@@ -1,6 +1,5 @@
 // Setup of one store, its head by value, and of both, in place.
 use crate::sides;
-use crate::sides::Side;
 use crate::sides::Sides;
 use crate::told;
 use crate::told::Made;

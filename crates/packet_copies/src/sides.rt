@@ -1,14 +1,22 @@
 // Two small stores by value.
 ghost use Prim.Native.Nat.{_≤_};
 ghost use lib.ListN.{length};
-use call_values::store;
 use offset_allocator::head::Head;
 use packets::Store;
 use records::totals::Totals;
 
+// A head with its tables, for 16 records. The nodes have words for two more, so that a count of 17 or 18 finds the pile alone too short.
+pub struct Words {
+    pub totals: Totals,
+    pub bin_indices: [u32; 256],
+    pub used_bins: [u8; 32],
+    pub nodes: [u32; 144],
+    pub free_nodes: [u32; 16],
+}
+
 // One store: the words of its allocator, its bytes, and how many of them are lent to a call.
 pub struct Side {
-    pub words: store::Store,
+    pub words: Words,
     pub bytes: [u8; 64],
     pub lent: u32,
 }
@@ -21,7 +29,7 @@ pub struct Sides {
 // No store: its head and tables are zeros, its bytes are 7, and so many of them are lent.
 pub fn no_store(lent: u32) -> Side {
     let totals = Totals::zeros();
-    let words = store::Store {
+    let words = Words {
         totals,
         bin_indices: [0u32; 256],
         used_bins: [0u8; 32],
@@ -67,7 +75,7 @@ pub fn head_of(totals: Totals, bin_indices: [u32; 256], used_bins: [u8; 32]) -> 
     }
 }
 
-pub fn head_in(words: store::Store) -> Head {
+pub fn head_in(words: Words) -> Head {
     let totals = words.totals;
     let bin_indices = words.bin_indices;
     let used_bins = words.used_bins;
@@ -79,7 +87,7 @@ pub fn with_head(side: Side, head: Head, nodes: [u32; 144], free_nodes: [u32; 16
     let totals = head.totals;
     let bin_indices = head.bin_indices;
     let used_bins = head.used_bins;
-    let words = store::Store {
+    let words = Words {
         totals,
         bin_indices,
         used_bins,
@@ -89,7 +97,14 @@ pub fn with_head(side: Side, head: Head, nodes: [u32; 144], free_nodes: [u32; 16
     with_words(side, words)
 }
 
-pub fn with_words(side: Side, words: store::Store) -> Side {
+// A store with other scalars in its head.
+pub fn with_totals(side: Side, totals: Totals) -> Side {
+    let mut words = side.words;
+    words.totals = totals;
+    with_words(side, words)
+}
+
+fn with_words(side: Side, words: Words) -> Side {
     let bytes = side.bytes;
     Side {
         words,

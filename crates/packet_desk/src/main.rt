@@ -66,7 +66,7 @@ fn packet_in(told: Told) -> Packet {
 fn fill(packet: Packet, before: Sides) -> Sides {
     let fresh = call(
         b"read it                      ",
-        Asked::Read(packet),
+        Asked::Ask(Question::Read(packet)),
         before,
     );
     let three = call(
@@ -76,7 +76,7 @@ fn fill(packet: Packet, before: Sides) -> Sides {
     );
     let read = call(
         b"read it                      ",
-        Asked::Read(packet),
+        Asked::Ask(Question::Read(packet)),
         three.sides,
     );
     let seven = call(
@@ -102,7 +102,7 @@ fn hand_back(packet: Packet, before: Sides) {
     );
     let read = call(
         b"read it                      ",
-        Asked::Read(packet),
+        Asked::Ask(Question::Read(packet)),
         back.sides,
     );
     let length = Question::Length(packet);
@@ -116,7 +116,7 @@ fn hand_back(packet: Packet, before: Sides) {
     let packet = packet_in(told);
     call(
         b"read it                      ",
-        Asked::Read(packet),
+        Asked::Ask(Question::Read(packet)),
         again.sides,
     );
 }

@@ -10,7 +10,7 @@ use Rattle.packets.specs.Stores.{Kept, Two, placed}
 use Rattle.packets.specs.Calls.{PacketCall, Answered, shows}
 use Rattle.packets.specs.Promise.{PacketPromise, PacketSetup, PacketSetupBoth, PacketAudit}
 use Rattle.packets.proofs.OneValue.{packet-one-value}
-use Rattle.packet_heads.specs.OneResult.{InPlace, ByValue, Form, in-place, by-value, PacketOneResult}
+use Rattle.packet_heads.specs.OneResult.{InPlace, ByValue, Form, in-place, by-value, PacketOneResult, PacketOneResultInBoth}
 
 -- ---- a store fixes what it is made of
 in-place-fixed : (v u : InPlace) → in-place .store v ≡ in-place .store u → v ≡ u
@@ -101,8 +101,5 @@ one-result-in E F fixed = record {
       (packet-one-value .of-done a b (ap (λ (x : Answered × List ℕ). x .0) same), ap (λ (x : Answered × List ℕ). x .1) same);
 }
 
-pub one-packet-result-in-place : (E : Edition) → PacketOneResult E in-place
-one-packet-result-in-place E = one-result-in E in-place in-place-fixed
-
-pub one-packet-result-by-value : (E : Edition) → PacketOneResult E by-value
-one-packet-result-by-value E = one-result-in E by-value by-value-fixed
+pub one-packet-result : (E : Edition) → PacketOneResultInBoth E
+one-packet-result E = record { placed = one-result-in E in-place in-place-fixed; valued = one-result-in E by-value by-value-fixed }

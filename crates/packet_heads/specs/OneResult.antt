@@ -76,3 +76,8 @@ pub record PacketOneResult (E : Edition) (F : Form) : Type 0 where
       → a ≡ b
   pub of-audit : (s : Store) (t : Two) (scratch left other : List ℕ) (a b : PacketAnswer) → PacketAudit E s t scratch left (doneSays a)
       → PacketAudit E s t scratch other (doneSays b) → (a ≡ b) × (left ≡ other)
+
+-- in both forms, under any edition
+pub record PacketOneResultInBoth (E : Edition) : Type 0 where
+  pub placed : PacketOneResult E in-place
+  pub valued : PacketOneResult E by-value

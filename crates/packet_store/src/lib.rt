@@ -11,7 +11,7 @@ ghost use Rattle.tables.specs.Calls.{edition32};
 ghost use Rattle.answers.specs.Asked.{requestOf, tokenOf};
 ghost use Rattle.answers.specs.Answers.{takeSays, sizeSays};
 ghost use Rattle.packets.specs.Stores.{storeOf};
-ghost use Rattle.packets.specs.OneStore.{freshBytes, insideSize, filledBy, shownBy, takeIn, lengthIn, fillIn, readIn};
+ghost use Rattle.packets.specs.OneStore.{freshBytes, insideSize, filledBy, takeIn, lengthIn, fillIn, readIn};
 ghost use Rattle.packets.specs.Calls.{plainly};
 ghost use Rattle.packets.specs.Answers.{doneSays};
 use answers::Allocation;

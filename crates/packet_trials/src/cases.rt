@@ -12,7 +12,6 @@
 //   l STORE OFFSET RECORD    length
 //   q STORE                  report
 //   a STORE                  audit
-use crate::judged;
 use crate::lines;
 use answers::Allocation;
 use answers::Handle;
@@ -39,10 +38,9 @@ enum Row {
     Nothing,
 }
 
-// Both stores, how many calls left something that they must not, and how many bytes wait to be printed.
+// Both stores, and how many bytes wait to be printed.
 struct Cases {
     sides: Sides,
-    wrong: u32,
     waiting: usize,
 }
 
@@ -76,7 +74,7 @@ fn of_three(row: Reader) -> Row {
     match letter {
         b's' => Row::Call(Asked::SetUp(store(row.b), row.c, row.d)),
         b'h' => Row::Call(Asked::HandBack(packet(row.b, row.c, row.d))),
-        b'r' => Row::Call(Asked::Read(packet(row.b, row.c, row.d))),
+        b'r' => Row::Call(Asked::Ask(Question::Read(packet(row.b, row.c, row.d)))),
         b'l' => Row::Call(Asked::Ask(Question::Length(packet(row.b, row.c, row.d)))),
         _ => Row::Nothing,
     }
@@ -125,7 +123,6 @@ fn asked(row: Reader, number: u32) -> Row {
 fn with_sides(cases: Cases, sides: Sides) -> Cases {
     Cases {
         sides,
-        wrong: cases.wrong,
         waiting: cases.waiting,
     }
 }
@@ -143,22 +140,8 @@ fn with_count(before: Sides, store: Store, count: u32) -> Sides {
     let meant = sides::at(store, before);
     let words = meant.words;
     let totals = words.totals;
-    let spoiled = words.with_totals(totals.with_max_allocs(count));
-    sides::put(store, sides::with_words(meant, spoiled), before)
-}
-
-pub fn one_more(n: u32) -> u32 {
-    if n == u32::MAX {
-        return n;
-    }
-    n + 1
-}
-
-fn counted(wrong: u32, is_right: bool) -> u32 {
-    if is_right {
-        return wrong;
-    }
-    one_more(wrong)
+    let spoiled = sides::with_totals(meant, totals.with_max_allocs(count));
+    sides::put(store, spoiled, before)
 }
 
 fn call(cases: Cases, asked: Asked, out: &mut [u8; 65536]) -> Cases {
@@ -167,7 +150,6 @@ fn call(cases: Cases, asked: Asked, out: &mut [u8; 65536]) -> Cases {
     let after = made.after;
     Cases {
         sides: after,
-        wrong: counted(cases.wrong, judged::is_right(asked, before, made)),
         waiting: lines::line(cases.waiting, before, made, out),
     }
 }
@@ -187,7 +169,6 @@ fn step(cases: Cases, row: Row, out: &mut [u8; 65536]) -> Cases {
 fn all(out: &mut [u8; 65536]) -> Cases {
     let mut cases = Cases {
         sides: no_stores(),
-        wrong: 0,
         waiting: 0,
     };
     let mut number = 0u32;
@@ -205,8 +186,4 @@ fn all(out: &mut [u8; 65536]) -> Cases {
 pub fn print(out: &mut [u8; 65536]) {
     let cases = all(out);
     journal_lines::flush(cases.waiting, out);
-    rows::line(
-        b"calls of the list that left or showed what they must not ",
-        cases.wrong,
-    );
 }

@@ -1,6 +1,7 @@
 -- The rows of specs/Rows.antt, computed. Assumes nothing.
-use mathlib.Core.Path.{refl}
-use mathlib.Core.List.{[], _∷_}
+use mathlib.Core.Path.{_≡_, refl}
+use mathlib.Core.List.{List, [], _∷_}
+use Prim.Native.Nat.{ℕ}
 use lib.Count.{leadingZeros, trailingZeros}
 use Rattle.small_float.specs.Class.{roundedUp, value}
 use Rattle.tables.specs.Layout.{word, put, putLink}
@@ -17,7 +18,23 @@ use Rattle.packets.specs.Shelf.{contents, shelf, filledSince}
 use Rattle.packets.specs.Stretch as stretch
 use Rattle.packets.specs.Stretch.{PacketStretch, allTold}
 use Rattle.packets.specs.Rows.{takes, hands-back, fills, reads, asks-length, asks-report}
-use Rattle.packets.specs.Rows.{answersOf, left, history, fresh, with-packets, PacketRows}
+use Rattle.packets.specs.Rows.{answersOf, left, history, fresh, with-packets, RowsMean, PacketRows}
+
+-- five lists are the same if they are in one list
+parts-of : {a b c d e f g h i j : List ℕ} → _≡_ {A = List (List ℕ)} (a ∷ b ∷ c ∷ d ∷ e ∷ []) (f ∷ g ∷ h ∷ i ∷ j ∷ [])
+    → (a ≡ f) × (b ≡ g) × (c ≡ h) × (d ≡ i) × (e ≡ j)
+parts-of z = (cc, cc, cc, cc, cc)
+
+pub rows-mean : RowsMean
+rows-mean = record {
+  from-there = λ t asked expected e. e;
+  answering = λ asked expected e. e;
+  leaving-bytes = λ asked on-chip external e. e;
+  unchanged = λ t asked expected e. e;
+  makes = λ c t on-chip external e. e;
+  shelved-is = λ s o r asked. refl;
+  rest-is = λ k m e. parts-of e;
+}
 
 a-stretch : PacketStretch [] []
     (history (takes 1 ∷ takes 9 ∷ takes 2 ∷ takes 99 ∷ fills OnChip 1 1 (1 ∷ []) ∷ fills OnChip 1 1 (1 ∷ 2 ∷ 3 ∷ []) ∷ reads External 0 0

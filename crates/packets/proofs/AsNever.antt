@@ -29,7 +29,7 @@ use Rattle.packets.proofs.RunTwins.{told-alike}
 
 module _ (E : Edition) where
   -- ---- where no store is, calls leave every word
-  none-stays : {w v : Words} {ds : List Done} → w .count ≡ 0 → NoSetup ds → Run E w ds v → v ≡ w
+  pub none-stays : {w v : Words} {ds : List Done} → w .count ≡ 0 → NoSetup ds → Run E w ds v → v ≡ w
   none-stays e n below.nothing = refl
   none-stays {w} e n (below.then (below.called {v = next} {c = c} p) rest) =
       let same : next ≡ w = ap (λ (x : Answer × Words). x .1) (p .exact ∙ tables.claims E .call-6 c w (inl (omega (arith, e)))) in

@@ -9,6 +9,7 @@ use Rattle.packets.proofs.Told.{read-is, length-is-told, read-none, len
 use Rattle.packets.proofs.AsFilled.{as-filled, not-after-return, no-length-after-return}
 use Rattle.packets.proofs.BareSetups.{set-up-bare, set-up-both-bare}
 use Rattle.packets.proofs.AsNever.{as-never}
+use Rattle.packets.proofs.SinceSetups.{stands, made-along, audit-says-yes, not-short}
 use Rattle.packets.proofs.TakeAnswers.{first-try}
 use Rattle.packets.proofs.ShortStores.{nine-exactly, read-short}
 use Rattle.packets.proofs.BytesInside.{seventeen-exactly, length-inside}
@@ -32,6 +33,10 @@ claims E = record {
   fill-none = fill-none E;
   back-done = back-done E;
   back-none = back-none E;
+  stands = stands E;
+  made-along = made-along E;
+  audit-says-yes = audit-says-yes E;
+  not-short = not-short E;
   never-9 = never-9 E;
   set-up-bare = set-up-bare E;
   set-up-both-bare = set-up-both-bare E;

@@ -1,5 +1,5 @@
 -- What the walks over both stores go by: the promise of a call, from what became of the store that is named. Assumes nothing.
-use mathlib.Core.Path.{_≡_, refl, sym, ap, subst, _∙_}
+use mathlib.Core.Path.{_≡_, sym, ap, subst, _∙_}
 use mathlib.Core.Bool.{Bool, true, false, _||_, cond}
 use mathlib.Core.Logic.{_≢_}
 use lib.Dec.{eqb}
@@ -17,7 +17,7 @@ use Rattle.audit_words.specs.Promise.{AuditPromise}
 use Rattle.packets.specs.declared.Store.{Store}
 use Rattle.packets.specs.Stores.{Kept, Two, two, at, put, withWords}
 use Rattle.packets.specs.OneStore.{takeIn, handBackIn, lengthIn, fillIn, readIn}
-use Rattle.packets.specs.Calls.{PacketCall, Take, HandBack, Fill, Read, LengthOf, ReportOf, Answered, packet, shows, plain, plainly}
+use Rattle.packets.specs.Calls.{PacketCall, Take, HandBack, Fill, Read, LengthOf, ReportOf, Answered, shows, plain, plainly}
 use Rattle.packets.specs.Calls.{tooShort, nine, goesOn, fromExternal, externally, afterFirst, takeFrom, on, packetWords, auditIn}
 use Rattle.packets.specs.Promise.{PacketPromise, PacketAudit}
 use Rattle.packets.proofs.Promised.{promised}

@@ -88,6 +88,9 @@ packet-numbers = record {
   );
   numbers = λ n. (λ p. given n (p .0) (p .1), λ o. gives n o);
   never-0 = never-0;
+  of-refusal = λ why. refl;
+  of-packet = λ s o r. refl;
+  of-read = λ bytes. refl;
 }
 
 -- ---- answers

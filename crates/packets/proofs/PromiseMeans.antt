@@ -1,5 +1,5 @@
 -- What specs/PromiseMeans.antt says of the promises holds, under every edition. Assumes nothing.
-use mathlib.Core.Path.{_≡_, refl, sym, ap, subst, _∙_}
+use mathlib.Core.Path.{_≡_, refl, sym, ap, _∙_}
 use mathlib.Core.Logic.{_↔_, _⊎_, inl, inr, _≢_}
 use mathlib.Core.Bool.{Bool, true, false, _||_, cond}
 use mathlib.Core.List.{List, [], _∷_}
@@ -25,14 +25,14 @@ use Rattle.parts.proofs.Meanings.{bytes-mean}
 use Rattle.packets.specs.declared.Store.{Store}
 use Rattle.packets.specs.declared.Store.the-variants.{OnChip, External}
 use Rattle.packets.specs.Stores.{Kept, Two, two, at, put, other, withBytes}
-use Rattle.packets.specs.OneStore.{lentIn, noStore, freshBytes, filledBy, takeIn, lengthIn, fillIn, readIn, setUpIn}
+use Rattle.packets.specs.OneStore.{lentIn, freshBytes, filledBy, takeIn, lengthIn, fillIn, readIn, setUpIn}
 use Rattle.packets.specs.Calls.{PacketCall, Take, HandBack, Fill, Read, LengthOf, ReportOf, Answered, packet, shows, plain, plainly}
-use Rattle.packets.specs.Calls.{either-shorter, shorter, tooShort, nine, goesOn, on, fromExternal, externally, afterFirst, takeFrom, refusedBy, gateIn}
+use Rattle.packets.specs.Calls.{tooShort, nine, goesOn, on, fromExternal, externally, afterFirst, takeFrom, refusedBy, gateIn}
 use Rattle.packets.specs.Calls.{packetWords, setUpWords, setUpBothWords, auditIn}
 use Rattle.packets.specs.Promise.{MayWrite, PacketPromise, PacketAudit}
-use Rattle.packets.specs.Claims.{Bare, no-store, just-set-up, AllBare, Short, CannotBeRead}
+use Rattle.packets.specs.Claims.{no-store, just-set-up, Short, CannotBeRead}
 use Rattle.packets.specs.PromiseMeans.{PromiseMeans}
-use Rattle.packets.proofs.Steps.{both-long, shows-part, shows-nothing}
+use Rattle.packets.proofs.Steps.{shows-part, shows-nothing}
 use Rattle.packets.proofs.Setups.{at-put}
 use Rattle.packets.proofs.ShortStores.{short-found, found-short, long-found}
 use Rattle.packets.proofs.BytesInside.{length-inside}

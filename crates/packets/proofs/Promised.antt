@@ -1,9 +1,9 @@
 -- A packet call whose answer, words and bytes are the model's keeps all that it promises. Assumes nothing.
 use mathlib.Core.Path.{_≡_, refl, sym, ap, subst, _∙_}
-use mathlib.Core.Logic.{_⊎_, inl, inr, _≢_}
-use mathlib.Core.Bool.{Bool, true, false, _||_, cond}
+use mathlib.Core.Logic.{_≢_}
+use mathlib.Core.Bool.{Bool, true, false, cond}
 use mathlib.Core.List.{List, [], _∷_}
-use Prim.Native.Nat.{ℕ, zero, suc, _+_, _≤_, _<_}
+use Prim.Native.Nat.{ℕ, zero, suc, _+_, _≤_}
 use native.Mathlib.Omega.{arith}
 use lib.Dec.{ltb}
 use lib.ListN.{length, getD}
@@ -23,10 +23,10 @@ use Rattle.parts.proofs.Meanings.{bytes-mean}
 use Rattle.packets.specs.declared.Store.{Store}
 use Rattle.packets.specs.declared.Store.the-variants.{OnChip, External}
 use Rattle.packets.specs.Stores.{Kept, Two, two, at, put, withWords, withBytes}
-use Rattle.packets.specs.OneStore.{freshBytes, filledBy, takeIn, handBackIn, lengthIn, fillIn, readIn}
-use Rattle.packets.specs.Calls.{PacketCall, Take, HandBack, Fill, Read, LengthOf, ReportOf, Answered, packet, shows, plain}
+use Rattle.packets.specs.OneStore.{freshBytes, filledBy, takeIn, handBackIn, lengthIn, fillIn}
+use Rattle.packets.specs.Calls.{PacketCall, Take, HandBack, Fill, Read, LengthOf, ReportOf, Answered, packet, plain}
 use Rattle.packets.specs.Calls.{tooShort, nine, goesOn, externally, afterFirst, takeFrom, on, packetWords}
-use Rattle.packets.specs.Promise.{triedOn, ifNamed, once, takesOn, callsOn, madeOn, Within, MayWrite, PacketPromise}
+use Rattle.packets.specs.Promise.{triedOn, ifNamed, once, callsOn, madeOn, Within, MayWrite, PacketPromise}
 use Rattle.packets.proofs.Parts.{marked-length}
 use Rattle.packets.proofs.Steps.{both-long, length-in-size}
 

@@ -1,5 +1,6 @@
 -- A run of packet calls has everything that can be asked, and no answer but the promised one. Assumes nothing.
 use mathlib.Core.Path.{_≡_, refl, sym, ap, subst}
+use mathlib.Core.Logic.{_≢_}
 use mathlib.Core.Bool.{Bool, true, false, _||_, cond}
 use mathlib.Core.List.{List, [], _∷_, _++_}
 use Prim.Native.Nat.{ℕ, zero, suc, _^_, _<_}
@@ -24,9 +25,9 @@ use Rattle.packets.specs.OneStore.{lentIn, noStore, setUpIn}
 use Rattle.packets.specs.Calls.{PacketCall, Take, HandBack, Fill, Read, LengthOf, ReportOf, Answered, plain}
 use Rattle.packets.specs.Calls.{tooShort, shorter, either-shorter, nine, goesOn, on, gateIn, neither, refusedBy}
 use Rattle.packets.specs.Calls.{packetWords, setUpWords, setUpBothWords, auditIn}
-use Rattle.packets.specs.Promise.{triedOn, ifNamed, once, callsOn, madeOn, PacketAudit}
+use Rattle.packets.specs.Promise.{triedOn, ifNamed, once, callsOn, madeOn, PacketPromise, PacketAudit}
 use Rattle.packets.specs.Runs.{Asking, Calling, SettingUp, SettingUpBoth, Auditing, Happened, did, SameLent, PacketStep, called, set-up, set-up-both}
-use Rattle.packets.specs.Runs.{audited, PacketRun, nothing, then, askedOf, SizesFit, RunsMean}
+use Rattle.packets.specs.Runs.{audited, PacketRun, nothing, then, madeAlong, askedOf, SizesFit, RunsMean}
 use Rattle.packets.proofs.Promised as promised
 use Rattle.packets.proofs.Setups.{setup-promised, both-promised}
 
@@ -60,7 +61,7 @@ module _ (E : Edition) where
   calls-none s (LengthOf named span) t = named-none named s (once E (ledger.Ask (ledger.SizeOf span)) s t) tt
   calls-none s (ReportOf named) t = named-none named s (once E (ledger.Ask ledger.Report) s t) tt
 
-  made-none : (s : Store) (c : PacketCall) (t : Two) → NoSetup (madeOn E s c t)
+  pub made-none : (s : Store) (c : PacketCall) (t : Two) → NoSetup (madeOn E s c t)
   unfolding madeOn
   made-none s c t = go (tooShort t)
     where
@@ -258,6 +259,23 @@ unfolding askedOf
 every-question [] after q a = refl
 every-question (did p b ∷ before) after q a = ap (λ (xs : List Asking). p ∷ xs) (every-question before after q a)
 
+along-other : {E : Edition} {t u v : Two} {q : Asking} {a : Answered} {hs : List Happened} (s : Store) (step : PacketStep E t q a u)
+    (rest : PacketRun E u hs v) → ((c : PacketCall) → q ≢ Calling c) → madeAlong E s (then step rest) ≡ madeAlong E s rest
+unfolding madeAlong
+along-other s (called {c = c} p) rest h = absurd (h c refl)
+along-other s (set-up same beside p) rest h = refl
+along-other s (set-up-both same same-too p) rest h = refl
+along-other s (audited e p) rest h = refl
+
+along-call : {E : Edition} {t u v : Two} {c : PacketCall} {a : Answered} {hs : List Happened} (s : Store) (p : PacketPromise E c t u a)
+    (rest : PacketRun E u hs v) → madeAlong E s (then (called p) rest) ≡ madeOn E s c t ++ madeAlong E s rest
+unfolding madeAlong
+along-call s p rest = refl
+
+along-none : (E : Edition) (s : Store) (t : Two) → madeAlong E s (nothing {t = t}) ≡ []
+unfolding madeAlong
+along-none E s t = refl
+
 pub runs-mean : (E : Edition) → RunsMean E
 runs-mean E = record {
   every-run = every-run E;
@@ -273,4 +291,7 @@ runs-mean E = record {
   sizes-fit = sizes-fit E;
   ends-there = ends-there E;
   every-question = every-question;
+  along-none = along-none E;
+  along-call = along-call;
+  along-other = along-other;
 }

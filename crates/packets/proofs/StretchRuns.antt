@@ -26,13 +26,13 @@ pub record Stretched (E : Edition) (own : List Token) (k m : Kept) : Type 0 wher
   pub stretch : ledger.Stretch own (logOf made)
   pub same-bytes : length (m .bytes) ≡ length (k .bytes)
 
-no-setups : (ds es : List Done) → NoSetup ds → NoSetup es → NoSetup (ds ++ es)
+pub no-setups : (ds es : List Done) → NoSetup ds → NoSetup es → NoSetup (ds ++ es)
 no-setups [] es h g = g
 no-setups (below.did (below.Calling c) a ∷ ds) es h g = no-setups ds es h g
 no-setups (below.did (below.Auditing n) a ∷ ds) es h g = no-setups ds es h g
 
 module _ (E : Edition) where
-  joined : {w v u : Words} {ds es : List Done} → Run E w ds v → Run E v es u → Run E w (ds ++ es) u
+  pub joined : {w v u : Words} {ds es : List Done} → Run E w ds v → Run E v es u → Run E w (ds ++ es) u
   joined below.nothing more = more
   joined (below.then step rest) more = below.then step (joined rest more)
 

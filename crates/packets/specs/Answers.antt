@@ -1,12 +1,8 @@
 -- What each answer of the code is: the documents' number and figures for each of its cases. Assumes nothing.
 use Prim.Native.Nat.{ℕ}
-use Rattle.ledger.specs.Ledger.{Answer, done, length-is, reported, refused}
+use Rattle.ledger.specs.Ledger.{done, length-is, reported, refused}
 use Rattle.ledger.specs.Figures.{refusalOf}
-use Rattle.ledger.specs.Calls.{Token}
 use Rattle.answers.specs.Refusals.{numberOf}
-use Rattle.answers.specs.Asked.{tokenOf}
-use Rattle.packets.specs.declared.Store.{Store}
-use Rattle.packets.specs.declared.Packet.{Packet}
 use Rattle.packets.specs.declared.PacketRefusal.{PacketRefusal}
 use Rattle.packets.specs.declared.PacketRefusal.the-variants as why
 use Rattle.packets.specs.declared.PacketAnswer.{PacketAnswer}

@@ -2,16 +2,18 @@
 use mathlib.Core.Path.{_≡_}
 use mathlib.Core.Logic.{_↔_, _⊎_, _≢_}
 use mathlib.Core.Option.{none, some}
-use mathlib.Core.List.{List, [], _∷_}
+use mathlib.Core.List.{List, [], _∷_, _++_}
 use Prim.Native.Nat.{ℕ, _+_, _≤_, _<_}
 use lib.ListN.{length}
 use Rattle.ledger.specs.Ledger.{done, length-is, refused, setup, by-class}
 use Rattle.ledger.specs.Calls.{Request, Token, spanOf}
 use Rattle.ledger.specs.Calls as ledger
-use Rattle.tables.specs.Words.{Edition}
+use Rattle.tables.specs.Words.{Words, Edition}
 use Rattle.tables.specs.Sound.{Sound}
 use Rattle.tables.specs.Claims.{OneOf}
 use Rattle.tables.specs.Promise.{Promise}
+use Rattle.demands.specs.Runs.{Done, Run, NoSetup}
+use Rattle.demands.specs.Demands.{Since}
 use Rattle.parts.specs.Bytes.{notHeard}
 use Rattle.packets.specs.declared.Store.{Store}
 use Rattle.packets.specs.declared.Store.the-variants.{External}
@@ -19,8 +21,8 @@ use Rattle.packets.specs.Stores.{Kept, Two, at, other}
 use Rattle.packets.specs.OneStore.{lengthIn}
 use Rattle.packets.specs.Calls.{PacketCall, Take, HandBack, Fill, Read, LengthOf, ReportOf, Answered, packet, shows, plain}
 use Rattle.packets.specs.Calls.{packetWords}
-use Rattle.packets.specs.Promise.{PacketPromise, PacketSetup, PacketSetupBoth}
-use Rattle.packets.specs.Runs.{Calling, SettingUp, SettingUpBoth, Auditing, Happened, did, PacketRun, PacketStep, askedOf}
+use Rattle.packets.specs.Promise.{PacketPromise, PacketSetup, PacketSetupBoth, PacketAudit}
+use Rattle.packets.specs.Runs.{Calling, SettingUp, SettingUpBoth, Auditing, Happened, did, PacketRun, PacketStep, madeAlong, askedOf}
 use Rattle.packets.specs.Shelf.{contents, shelf, filledSince}
 use Rattle.packets.specs.Stretch.{PacketStretch, allTold}
 
@@ -100,7 +102,23 @@ pub record PacketClaims (E : Edition) : Type 0 where
       → PacketPromise E (HandBack s span) u v a → contents span (shelf s hs []) ≡ some bytes → a ≡ plain done
   pub back-none : {t u v : Two} {hs : List Happened} {s : Store} {span : Token} {a : Answered} → AllBare E t → PacketRun E t hs u
       → PacketPromise E (HandBack s span) u v a → contents span (shelf s hs []) ≡ none → CannotBeRead (at s u) a
-  -- no such run meets 9 but in a setup
+  -- ---- each store of such a run is none, or is as demand 2 has it since an accepted setup: a run of the demands led from that setup's words to its
+  -- own, so that all that Demands says of them holds, and it has at least as many bytes as its size
+  pub stands : {t u : Two} {hs : List Happened} → AllBare E t → PacketRun E t hs u → (s : Store)
+      → ((at s u .words .count ≡ 0) × (at s u .words .size ≡ 0))
+      ⊎ ((size : ℕ) × (count : ℕ) × (at-first : Words) × (ds : List Done) × Since E size count (setup by-class size count) at-first ds (at s u .words)
+      × (size ≤ length (at s u .bytes)))
+  -- and what a run did to a store that is not set up in it is a run of the demands: of the calls below that its packet calls made there, and no others
+  pub made-along : {t u : Two} {hs : List Happened} (s : Store) (run : PacketRun E t hs u)
+      → ((before after : List Happened) (size count : ℕ) (a : Answered) → hs ≢ before ++ (did (SettingUp s size count) a ∷ after))
+      → ((before after : List Happened) (size count other-size other-count : ℕ) (a : Answered)
+      → hs ≢ before ++ (did (SettingUpBoth size count other-size other-count) a ∷ after))
+      → Run E (at s t .words) (madeAlong E s run) (at s u .words) × NoSetup (madeAlong E s run)
+  -- its audit says yes, if its scratch is long enough
+  pub audit-says-yes : {t u : Two} {hs : List Happened} {s : Store} {scratch left : List ℕ} {a : Answered} → AllBare E t → PacketRun E t hs u
+      → PacketAudit E s u scratch left a → at s u .words .count ≢ 0 → at s u .words .count ≤ length scratch → a ≡ plain done
+  -- no such run meets 9 but in a setup: no store of it is too short, so that an audit does not give 9, nor is a read empty for it
+  pub not-short : {t u : Two} {hs : List Happened} → AllBare E t → PacketRun E t hs u → ¬ Short u
   pub never-9 : {t u v : Two} {hs : List Happened} {c : PacketCall} {a : Answered} → AllBare E t → PacketRun E t hs u
       → PacketPromise E c u v a → a ≢ plain (refused 9)
   -- a setup begins bare, accepted or refused

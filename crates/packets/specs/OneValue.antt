@@ -2,17 +2,20 @@
 -- proofs/OneValue.antt makes both. Assumes nothing.
 use mathlib.Core.Path.{_≡_}
 use mathlib.Core.Logic.{_↔_, _≢_}
-use mathlib.Core.List.{[], _∷_}
+use mathlib.Core.List.{List, [], _∷_}
 use Prim.Native.Nat.{ℕ, _≤_}
+use Rattle.ledger.specs.Ledger.{refused}
 use Rattle.answers.specs.declared.Refusal.{Refusal}
 use Rattle.tables.specs.Claims.{OneOf}
+use Rattle.packets.specs.declared.Store.{Store}
 use Rattle.packets.specs.declared.PacketRefusal.{PacketRefusal}
 use Rattle.packets.specs.declared.PacketRefusal.the-variants.{StoreTooShort, OfStore, TooManyBytes}
 use Rattle.packets.specs.declared.PacketAnswer.{PacketAnswer}
 use Rattle.packets.specs.declared.PacketGrant.{PacketGrant}
 use Rattle.packets.specs.declared.PacketLength.{PacketLength}
 use Rattle.packets.specs.declared.PacketReport.{PacketReport}
-use Rattle.packets.specs.Answers.{whyNumber, doneSays, grantSays, lengthSays, reportSays}
+use Rattle.packets.specs.Calls.{packet, shows, plain}
+use Rattle.packets.specs.Answers.{whyNumber, refusalIn, doneSays, grantSays, lengthSays, reportSays}
 
 -- whyNumber told from the other side, so that a number says which refusal it is
 pub record PacketNumbers : Type 0 where
@@ -24,6 +27,10 @@ pub record PacketNumbers : Type 0 where
   -- the numbers that there are: each of these is a refusal's, and no other; none is 0, by which `number` says that nothing was refused
   pub numbers : (n : ℕ) → ((why : PacketRefusal) × (whyNumber why ≡ n)) ↔ OneOf (1 ∷ 2 ∷ 3 ∷ 4 ∷ 5 ∷ 6 ∷ 8 ∷ 9 ∷ 17 ∷ []) n
   pub never-0 : (why : PacketRefusal) → whyNumber why ≢ 0
+  -- and of an answer: a refusal's own, 0 of a packet, and 0 of the bytes that a read shows
+  pub of-refusal : (why : PacketRefusal) → refusalIn (plain (refused (whyNumber why))) ≡ whyNumber why
+  pub of-packet : (s : Store) (o r : ℕ) → refusalIn (packet s o r) ≡ 0
+  pub of-read : (bytes : List ℕ) → refusalIn (shows bytes) ≡ 0
 
 pub record PacketOneValue : Type 0 where
   pub of-done : (a b : PacketAnswer) → doneSays a ≡ doneSays b → a ≡ b

@@ -6,21 +6,22 @@ use mathlib.Core.Logic.{_↔_, _⊎_, _≢_}
 use mathlib.Core.List.{List, [], _∷_}
 use Prim.Native.Nat.{ℕ, _+_, _≤_, _<_}
 use lib.ListN.{length, getD}
-use Rattle.ledger.specs.Ledger.{granted, done, length-is, refused, setup, by-class}
+use Rattle.ledger.specs.Ledger.{Answer, granted, done, length-is, refused, setup, by-class}
 use Rattle.ledger.specs.Calls.{Request, Token}
 use Rattle.ledger.specs.Calls as ledger
 use Rattle.tables.specs.Words.{Edition}
 use Rattle.tables.specs.Sound.{Sound}
 use Rattle.tables.specs.Calls.{answerWords}
 use Rattle.tables.specs.Claims.{OneOf}
+use Rattle.demands.specs.Runs.{Done}
 use Rattle.parts.specs.Bytes.{partOf}
 use Rattle.packets.specs.declared.Store.{Store}
 use Rattle.packets.specs.declared.Store.the-variants.{OnChip, External}
-use Rattle.packets.specs.Stores.{Kept, Two, at, put, other}
-use Rattle.packets.specs.OneStore.{noStore}
+use Rattle.packets.specs.Stores.{Kept, Two, two, at, put, other}
+use Rattle.packets.specs.OneStore.{freshBytes, insideSize, filledBy, shownBy, noStore}
 use Rattle.packets.specs.Calls.{PacketCall, Take, HandBack, Fill, Read, LengthOf, ReportOf, Answered, packet, shows, plain}
-use Rattle.packets.specs.Calls.{packetWords, setUpWords, setUpBothWords}
-use Rattle.packets.specs.Promise.{MayWrite, PacketPromise, PacketSetup, PacketSetupBoth, PacketAudit}
+use Rattle.packets.specs.Calls.{fromExternal, afterFirst, packetWords, setUpWords, setUpBothWords}
+use Rattle.packets.specs.Promise.{triedOn, MayWrite, PacketPromise, PacketSetup, PacketSetupBoth, PacketAudit}
 use Rattle.packets.specs.Claims.{Bare, AllBare, Short, CannotBeRead}
 
 pub record PromiseMeans (E : Edition) : Type 0 where
@@ -93,3 +94,14 @@ pub record PromiseMeans (E : Edition) : Type 0 where
   pub none-bare : (k : Kept) → k .words .count ≡ 0 → k .words .size ≡ 0 → Bare E k
   pub begun-bare : (k : Kept) (size count : ℕ) → Sound E (k .words) (setup by-class size count) → size ≤ length (k .bytes) → Bare E k
   pub each-bare : (t : Two) → Bare E (t .on-chip) → Bare E (t .external) → AllBare E t
+
+-- ---- the words that go by an answer, where it is one that never comes there: nothing is marked, filled, shown or tried for it, and it is given as it is
+pub record AnswersMean : Type 0 where
+  pub no-grant-marks-none : (a : Answer) (s : ℕ) (bytes : List ℕ) → ((o r : ℕ) → a ≢ granted o r) → freshBytes a s bytes ≡ bytes
+  pub no-length-stays : (size o : ℕ) (a : Answer) → ((n : ℕ) → a ≢ length-is n) → insideSize size o a ≡ a
+  pub no-length-fills-none : (a : Answer) (o : ℕ) (new bytes : List ℕ) → ((n : ℕ) → a ≢ length-is n) → filledBy a o new bytes ≡ (a, bytes)
+  pub no-length-shows-none : (a : Answer) (o : ℕ) (bytes : List ℕ) → ((n : ℕ) → a ≢ length-is n) → shownBy a o bytes ≡ []
+  pub no-grant-is-plain : (a : Answer) → ((o r : ℕ) → a ≢ granted o r) → fromExternal a ≡ plain a
+  pub no-refusal-goes-on : (a : Answer) (first beside : Kept) (second : Answer × Kept) → ((o r : ℕ) → a ≢ granted o r) → ((k : ℕ) → a ≢ refused k)
+      → afterFirst a first beside second ≡ (plain a, two first beside)
+  pub no-refusal-tries-none : (a : Answer) (ds : List Done) → ((k : ℕ) → a ≢ refused k) → triedOn a ds ≡ []

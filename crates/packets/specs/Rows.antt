@@ -153,6 +153,21 @@ once c a = below.did (below.Calling c) a ∷ []
 abbrev pub shelved : Store → (o r : ℕ) → List Asking → Option (List ℕ)
 shelved s o r asked = contents (spanOf o r) (shelf s (history asked fresh) [])
 
+-- ---- the same, from the other side: a row says what is answered, left, made and shelved, whatever stands in it
+pub record RowsMean : Type 0 where
+  pub from-there : (t : Two) (asked : List Asking) (expected : List Answered) → From t asked expected → answersOf asked t ≡ expected
+  pub answering : (asked : List Asking) (expected : List Answered) → Answering asked expected → answersOf asked fresh ≡ expected
+  pub leaving-bytes : (asked : List Asking) (on-chip external : List ℕ) → LeavingBytes asked on-chip external
+      → (left asked fresh .on-chip .bytes ≡ on-chip) × (left asked fresh .external .bytes ≡ external)
+  pub unchanged : (t : Two) (asked : List Asking) (expected : List Answered) → Unchanged t asked expected
+      → (answersOf asked t ≡ expected) × (left asked t ≡ t)
+  pub makes : (c : PacketCall) (t : Two) (on-chip external : List below.Done) → Makes c t on-chip external
+      → (madeOn edition32 OnChip c t ≡ on-chip) × (madeOn edition32 External c t ≡ external)
+  pub shelved-is : (s : Store) (o r : ℕ) (asked : List Asking) → shelved s o r asked ≡ contents (spanOf o r) (shelf s (history asked fresh) [])
+  pub rest-is : (k m : Kept) → restOf k ≡ restOf m
+      → (k .words .usedBins ≡ m .words .usedBins) × (k .words .binIndices ≡ m .words .binIndices) × (k .words .nodes ≡ m .words .nodes)
+      × (k .words .pile ≡ m .words .pile) × (k .bytes ≡ m .bytes)
+
 -- every call on packets that are out, and some that are 17, 5 or 8 where no store is too short
 abbrev pub every-call : List Asking
 every-call =

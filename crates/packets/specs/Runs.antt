@@ -1,15 +1,17 @@
 -- Runs of the packet calls in code, told by what their contracts promise and by nothing else. A call in place and the same call with both heads by
 -- value promise the same record, so a step of a run may be either. Assumes nothing.
 use mathlib.Core.Path.{_≡_}
+use mathlib.Core.Logic.{_≢_}
 use mathlib.Core.List.{List, [], _∷_, _++_}
 use Prim.Native.Nat.{ℕ, _^_, _<_}
 use lib.ListN.{length}
 use Rattle.tables.specs.Words.{Edition}
 use Rattle.tables.specs.Room.{OfHead}
+use Rattle.demands.specs.Runs.{Done}
 use Rattle.packets.specs.declared.Store.{Store}
 use Rattle.packets.specs.Stores.{Kept, Two, at, other}
 use Rattle.packets.specs.Calls.{PacketCall, Answered, plain, packetWords, setUpWords, setUpBothWords, auditIn}
-use Rattle.packets.specs.Promise.{PacketPromise, PacketSetup, PacketSetupBoth, PacketAudit}
+use Rattle.packets.specs.Promise.{madeOn, PacketPromise, PacketSetup, PacketSetupBoth, PacketAudit}
 
 -- ---- what can be asked: a call, a setup of one store or of both, an audit with a scratch of so many words
 pub data Asking : Type 0 where
@@ -44,6 +46,15 @@ pub data PacketRun (E : Edition) : Two → List Happened → Two → Type 0 wher
   nothing : {t : Two} → PacketRun E t [] t
   then : {t u v : Two} {q : Asking} {a : Answered} {hs : List Happened} → PacketStep E t q a u → PacketRun E u hs v
       → PacketRun E t (did q a ∷ hs) v
+
+-- the calls that a run made below on one store, each with its answer there: those of its packet calls, in their order
+module _ (E : Edition) (s : Store) where
+  unfoldable pub madeAlong : {t u : Two} {hs : List Happened} → PacketRun E t hs u → List Done
+  madeAlong nothing = []
+  madeAlong (then (called {t = t} {c = c} p) rest) = madeOn E s c t ++ madeAlong rest
+  madeAlong (then (set-up same beside p) rest) = madeAlong rest
+  madeAlong (then (set-up-both same same-too p) rest) = madeAlong rest
+  madeAlong (then (audited e p) rest) = madeAlong rest
 
 -- all that was asked
 unfoldable pub askedOf : List Happened → List Asking
@@ -98,3 +109,9 @@ pub record RunsMean (E : Edition) : Type 0 where
   -- everything that was asked is told, each in its place
   pub every-question : (before after : List Happened) (q : Asking) (a : Answered)
       → askedOf (before ++ (did q a ∷ after)) ≡ askedOf before ++ (q ∷ askedOf after)
+  -- of each packet call the calls that it makes below, in their order; a setup and an audit add none
+  pub along-none : (s : Store) (t : Two) → madeAlong E s (nothing {t = t}) ≡ []
+  pub along-call : {t u v : Two} {c : PacketCall} {a : Answered} {hs : List Happened} (s : Store) (p : PacketPromise E c t u a) (rest : PacketRun E u hs v)
+      → madeAlong E s (then (called p) rest) ≡ madeOn E s c t ++ madeAlong E s rest
+  pub along-other : {t u v : Two} {q : Asking} {a : Answered} {hs : List Happened} (s : Store) (step : PacketStep E t q a u) (rest : PacketRun E u hs v)
+      → ((c : PacketCall) → q ≢ Calling c) → madeAlong E s (then step rest) ≡ madeAlong E s rest

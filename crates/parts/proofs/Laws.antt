@@ -5,7 +5,7 @@ use native.Mathlib.Numerals.{add-one}
 use native.Mathlib.Omega.{arith}
 use mathlib.Core.List.{List, _++_, append-assoc}
 use mathlib.Core.Path.{_≡_, sym, ap, subst, _∙_}
-use lib.ListN.{length, take, drop, getD, set, replicate, length-append, length-take, length-drop, length-replicate, take-append-drop}
+use lib.ListN.{length, take, drop, getD, set, replicate, length-drop, length-replicate, take-append-drop}
 use lib.Seq.{drop-cons, set-at, append-snoc, take-suc, length-take-le, drop-append-le, drop-drop, take-length}
 use borrow.Rule.Slice.PartMut.{putMid}
 use Rattle.parts.specs.Bytes.{partOf, over, notHeard, marked}

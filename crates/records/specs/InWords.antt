@@ -76,6 +76,17 @@ wordsOf t heads leaves nodes pile = record {
   pile = pile;
 }
 
+-- what a call in place leaves, as values of the code; and the words that they make
+pub record InPlace : Type 0 where
+  pub totals : Totals
+  pub binIndices : List ℕ
+  pub usedBins : List ℕ
+  pub nodes : List ℕ
+  pub pile : List ℕ
+
+abbrev pub placedWords : InPlace → Words
+placedWords v = wordsOf (v .totals) (v .binIndices) (v .usedBins) (v .nodes) (v .pile)
+
 -- and back: the totals in words
 abbrev pub totalsIn : Words → Totals
 totalsIn w = scalars (w .size) (w .count) (w .freeStorage) (w .freeOffset) (w .usedBinsTop)

@@ -3,7 +3,6 @@
 // Whoever makes them or changes one goes through these functions, so that a new scalar is named here and in specs/ alone. They are spelled out:
 // with `self.size = size; self` in their place the timed runs were slower (docs/SPEED.md).
 ghost use mathlib.Core.Path.{_≡_};
-ghost use mathlib.Core.Bool.{true};
 ghost use Prim.Native.Nat.{_≤_};
 ghost use Rattle.records.specs.InWords.{zeroTotals, blankTotals, withSize, withCount, withFreeStorage, withFreeOffset, withTopBits};
 ghost use Rattle.records.specs.InWords.{inArray, ofArray, putBack};
@@ -156,24 +155,5 @@ impl Totals {
         scalars[2] = self.free_storage;
         scalars[3] = self.free_offset;
         scalars[4] = self.used_bins_top;
-    }
-
-    // Every one is the other's.
-    pub fn same(self, other: Totals) -> bool
-        ensures { λ r. ⌜ (r ≡ true → self ≡ other) × (self ≡ other → r ≡ true) ⌝ }
-    {
-        if self.size != other.size {
-            return false;
-        }
-        if self.max_allocs != other.max_allocs {
-            return false;
-        }
-        if self.free_storage != other.free_storage {
-            return false;
-        }
-        if self.free_offset != other.free_offset {
-            return false;
-        }
-        self.used_bins_top == other.used_bins_top
     }
 }

@@ -24,7 +24,7 @@ fn put_answer(answer: Answer, waiting: usize, out: &mut [u8; 65536]) -> usize {
 }
 
 fn put_last(why: Broken, waiting: usize, out: &mut [u8; 65536]) -> usize {
-    let told = journal_lines::number(waiting, why.number() as u64, out);
+    let told = journal_lines::last(waiting, why, out);
     journal_lines::put(told, b"\n", out)
 }
 

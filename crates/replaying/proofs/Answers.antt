@@ -5,7 +5,10 @@ use Rattle.ledger.specs.Ledger.{setup, onTop, without, lowestFrom}
 use Rattle.ledger.specs.Calls.{answer}
 use Rattle.tables.specs.Gate.{setupGate}
 use Rattle.replaying.specs.Meaning.{asked, begun, meant, answersOf}
-use Rattle.replaying.specs.Rows.{MeaningRows}
+use Rattle.replaying.specs.Rows.{RowsMean, MeaningRows}
+
+pub rows-mean : RowsMean
+rows-mean = record { answering = λ calls expected e. e }
 
 pub meaning-rows : MeaningRows
 unfolding answersOf meant asked begun setupGate answer setup roundedUp onTop without lowestFrom

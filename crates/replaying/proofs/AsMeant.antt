@@ -6,7 +6,7 @@ use mathlib.Core.List.{List, [], _∷_}
 use Prim.Native.Nat.{ℕ, zero, suc}
 use native.Mathlib.Omega.{arith}
 use lib.ListN.{length}
-use Rattle.ledger.specs.Ledger.{Ledger, Answer, done, refused, setup, by-class, Stacks}
+use Rattle.ledger.specs.Ledger.{Ledger, Answer, done, refused, by-class, Stacks}
 use Rattle.ledger.specs.Calls as ledger
 use Rattle.ledger.specs.Calls.{Event, event}
 use Rattle.tables.specs.Words.{Words, Edition}

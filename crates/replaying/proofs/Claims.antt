@@ -18,7 +18,7 @@ use Rattle.replaying.specs.Meaning.{Standing, meant, answersOf, standing
 use Rattle.replaying.specs.Replays.{Replays, ends, breaks-off, goes-on, NoStore, StandsFor}
 use Rattle.replaying.specs.Claims.{inRun, ReplayClaims}
 use Rattle.replaying.proofs.AsMeant.{call-meets, from-none}
-use Rattle.replaying.proofs.OneReplay.{ended-means, broken-means, answered-means, one-step, one-replay}
+use Rattle.replaying.proofs.OneReplay.{ended-means, broken-means, answered-means, one-step, one-result, one-replay}
 
 module _ (E : Edition) where
   -- what a replay comes to, with tables of these lengths
@@ -138,5 +138,6 @@ replay-claims E = record {
       let run = is-a-run E replay holds in
       (run .dones, run .run, run .asked-are, run .answers-are);
   one-step = λ w v u found one other p q. one-step E p q;
+  one-result = one-result E;
   one-replay = λ bytes at w v u given others end other p q. one-replay E p q;
 }

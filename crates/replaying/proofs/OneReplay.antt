@@ -10,6 +10,8 @@ use Rattle.calls.specs.declared.Answer.{Answer}
 use Rattle.calls.specs.Values.{says}
 use Rattle.calls.proofs.OneValue.{one-value}
 use Rattle.calling.specs.Makes.{Makes}
+use Rattle.records.specs.InWords.{InPlace, placedWords}
+use Rattle.records.proofs.InPlace.{placed}
 use Rattle.calling.proofs.OneMade.{one-of-them}
 use Rattle.journal.specs.declared.entry.Broken.{Broken}
 use Rattle.journal.specs.declared.entry.Entry.{Entry}
@@ -39,6 +41,10 @@ module _ (E : Edition) where
       (ap (λ (x : Answer). Answered x next) (one-value .of-any a b (same .0)), same .1)
   one-step (at-end e) (at-end f) = (refl, e ∙ sym f)
   one-step (broken-off e) (broken-off f) = (refl, e ∙ sym f)
+
+  pub one-result : (w : Words) (v u : InPlace) (found : Entry) (one other : Outcome) → Steps E w (placedWords v) found one
+      → Steps E w (placedWords u) found other → (one ≡ other) × (v ≡ u)
+  one-result w v u found one other p q = let same = one-step p q in (same .0, placed v u (same .1))
 
   pub one-replay : {bytes : List ℕ} {at : ℕ} {w v u : Words} {given others : List ledger.Answer} {end other : Ending}
       → Replays E bytes at w given end v → Replays E bytes at w others other u → (given ≡ others) × (end ≡ other) × (v ≡ u)

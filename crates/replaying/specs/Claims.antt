@@ -1,4 +1,4 @@
--- What is claimed of a replay: one record, which proofs/Claims.antt makes. Assumes nothing.
+-- What is claimed of a replay: one record, which proofs/Claims.antt makes, and one of the base's edition, of proofs/SomeReplay.antt. Assumes nothing.
 use mathlib.Core.Path.{_≡_}
 use mathlib.Core.List.{List, [], _∷_, map}
 use Prim.Native.Nat.{ℕ}
@@ -7,13 +7,16 @@ use Rattle.ledger.specs.Ledger as ledger
 use Rattle.ledger.specs.Calls as ledger-calls
 use Rattle.tables.specs.Words.{Words, Edition}
 use Rattle.tables.specs.Setup.{Lent, zeros}
+use Rattle.tables.specs.Calls.{edition32}
 use Rattle.calls.specs.declared.Call.{Call}
 use Rattle.calls.specs.declared.Call.the-variants.{Take, HandBack, SetUp, Reset}
 use Rattle.calls.specs.declared.Answer.{Answer}
 use Rattle.calls.specs.Values.{says}
+use Rattle.records.specs.InWords.{InPlace, placedWords}
 use Rattle.calling.specs.Makes.{lentIn}
 use Rattle.journal.specs.declared.entry.Broken.{Broken}
 use Rattle.journal.specs.declared.entry.Entry.{Entry}
+use Rattle.journal.specs.Bytes.{AllBytes}
 use Rattle.journal.specs.Reading.{readAt, Ending, ended, broken, Holds}
 use Rattle.demands.specs.Demands.{Begun}
 use Rattle.demands.specs.Runs.{Asked, Calling, SettingUp, Done, Run, askedOf}
@@ -55,5 +58,14 @@ pub record ReplayClaims (E : Edition) : Type 0 where
       → (ds : List Done) × Run E w ds u × (askedOf ds ≡ map inRun cs) × (runs.answersOf ds ≡ given)
   -- ---- any two outcomes that a step's statement allows coincide, and so do any two replays
   pub one-step : (w v u : Words) (found : Entry) (one other : Outcome) → Steps E w v found one → Steps E w u found other → (one ≡ other) × (v ≡ u)
+  -- the same over values of the code: what came of it, and the totals, arrays and tables that are left
+  pub one-result : (w : Words) (v u : InPlace) (found : Entry) (one other : Outcome) → Steps E w (placedWords v) found one
+      → Steps E w (placedWords u) found other → (one ≡ other) × (v ≡ u)
   pub one-replay : (bytes : List ℕ) (at : ℕ) (w v u : Words) (given others : List ledger.Answer) (end other : Ending)
       → Replays E bytes at w given end v → Replays E bytes at w others other u → (given ≡ others) × (end ≡ other) × (v ≡ u)
+
+-- ---- in the base's edition
+pub record BaseReplays : Type 0 where
+  -- every journal has a replay, from any place and whatever words it is lent
+  pub some-replay : (bytes : List ℕ) (at : ℕ) (w : Words) → AllBytes bytes
+      → (given : List ledger.Answer) × (end : Ending) × (u : Words) × Replays edition32 bytes at w given end u

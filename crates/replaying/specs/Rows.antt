@@ -2,8 +2,6 @@
 use mathlib.Core.Path.{_≡_}
 use mathlib.Core.List.{List, [], _∷_}
 use Prim.Native.Nat.{ℕ}
-use Rattle.small_float.specs.declared.Size.{Size}
-use Rattle.answers.specs.declared.Allocation.{Allocation}
 use Rattle.ledger.specs.Ledger.{Answer, granted, done, refused}
 use Rattle.tables.specs.Calls.{edition32}
 use Rattle.calls.specs.declared.Call.{Call}
@@ -22,6 +20,10 @@ sets-up size count = SetUp record { 0 = size } count
 
 abbrev pub Answering : List Call → List Answer → Type 0
 Answering calls expected = answersOf edition32 8192 1024 calls no-store ≡ expected
+
+-- a row says what is answered, each answer in its place
+pub record RowsMean : Type 0 where
+  pub answering : (calls : List Call) (expected : List Answer) → Answering calls expected → answersOf edition32 8192 1024 calls no-store ≡ expected
 
 pub record MeaningRows : Type 0 where
   -- "The example prints three lines: 0, then 0 0 0, then 0."

@@ -12,6 +12,7 @@ use Rattle.small_float.specs.declared.ext.Smallest.{Smallest}
 use Rattle.small_float.specs.declared.ext.Smallest.the-variants.{Store, TooLarge}
 use Rattle.small_float.specs.RoundedUp.{roundedTo}
 use Rattle.small_float.specs.Smallest.{SmallestStore, refusalOf, storeOf}
+use Rattle.small_float.specs.OneResult.{OneResult}
 
 -- a class, or a size, is given by its number
 pub one-class : {n : ℕ} (a b : Class) → a .0 ≡ n → b .0 ≡ n → a ≡ b
@@ -30,10 +31,6 @@ same-rounding NoClass NoClass e = λ i. NoClass
 pub one-rounding : {wanted : Option ℕ} (a b : RoundedUp) → roundedTo a ≡ wanted → roundedTo b ≡ wanted → a ≡ b
 one-rounding a b p q = same-rounding a b (p ∙ sym q)
 
--- a class's value in 64 bits is a number as it stands
-pub one-value : {n : ℕ} (a b : ℕ) → a ≡ n → b ≡ n → a ≡ b
-one-value a b p q = p ∙ sym q
-
 -- an answer to the smallest-store question is given by its number and its figure
 same-answer : (a b : Smallest) → refusalOf a ≡ refusalOf b → storeOf a ≡ storeOf b → a ≡ b
 same-answer (Store s) (Store t) n f = ap Store (λ i. record { 0 = f i })
@@ -43,3 +40,12 @@ same-answer TooLarge TooLarge n f = λ i. TooLarge
 
 pub one-answer : (object : ℕ) (a b : Smallest) → SmallestStore object a → SmallestStore object b → a ≡ b
 one-answer object a b p q = same-answer a b (p .number ∙ sym (q .number)) (p .figure ∙ sym (q .figure))
+
+pub one-result : OneResult
+one-result = record {
+  of-up = λ s. one-rounding;
+  of-down = λ s. one-class;
+  of-value = λ c a b p q. p ∙ sym q;
+  of-size = λ c. one-size;
+  of-smallest = one-answer;
+}

@@ -2,15 +2,15 @@
 -- Assumes nothing.
 use mathlib.Core.Path.{_≡_, refl, sym, ap, _∙_}
 use mathlib.Core.Logic.{_⊎_, inl, inr}
-use mathlib.Core.List.{List, [], _∷_}
-use mathlib.Core.Bool.{Bool, true}
+use mathlib.Core.List.{[], _∷_}
+use mathlib.Core.Bool.{Bool}
 use mathlib.Core.Option.{Option, none, some}
 use Prim.Native.Nat.{ℕ, _+_, _*_, _/_, _%_, _≤_, _<_, _^_}
 use native.Mathlib.Nat.{div-self}
 use native.Mathlib.Omega.{arith}
 use lib.Dec.{ltb}
-use lib.Count.{leadingZeros, trailingZeros}
-use lib.ListN.{length, getD, replicate, length-replicate, getD-replicate, List·getD-eq-default}
+use lib.Count.{trailingZeros}
+use lib.ListN.{length, replicate, getD-replicate}
 use lib.Pow.{pow-pos}
 use borrow.Author.Tests.{lt-ltb, eq-eqb, ne-eqb}
 use Rattle.basics.proofs.Clash.{clash}
@@ -25,7 +25,7 @@ use Rattle.tables.specs.Words.{Words, withTotal, withLists}
 use Rattle.tables.specs.Search.{lowFrom, lowInBin, leafOrAbove, findClass, findFor}
 use Rattle.tables.specs.Search as found
 use Rattle.tables.specs.Take.{TakePlan, planRegion, planRecord, planClass, planTake, doTake}
-use Rattle.tables.specs.HandBack.{BackPlan, Merged, isLive, isFree, mergedOf, planMerged, planSides, planNeighbours, planBack, doBack}
+use Rattle.tables.specs.HandBack.{BackPlan, Merged, isFree, mergedOf, planMerged, planSides, planNeighbours, planBack, doBack}
 use Rattle.tables.specs.Setup.{Lent, tablesAlone, setupWords}
 use Rattle.tables.specs.Questions.{mayTell}
 use Rattle.tables.specs.Calls.{edition32, behind, answerWords}

@@ -1,8 +1,7 @@
 -- Every call on sound words answers as the ledger, and so do runs of calls: demands 2 and 3. Assumes nothing.
 use mathlib.Core.Path.{_≡_, refl, ap, ap₂, sym, _∙_, subst}
 use mathlib.Core.List.{List, [], _∷_}
-use Prim.Native.Nat.{ℕ, _≤_, _<_}
-use native.Mathlib.Omega.{arith}
+use Prim.Native.Nat.{ℕ, _≤_}
 use Rattle.ledger.specs.Ledger.{Ledger, Answer, done, refused, setup, by-class, Stacks}
 use Rattle.ledger.specs.Calls.{Call, Take, HandBack, Reset, Ask, Event, event, answer, end, answers, log}
 use Rattle.ledger.specs.WellFormed.{WellFormed}

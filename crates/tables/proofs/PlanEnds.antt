@@ -7,12 +7,12 @@ use lib.ListN.{getD}
 use Rattle.basics.specs.Sum.{one}
 use Rattle.small_float.specs.Class.{roundedUp}
 use Rattle.ledger.specs.Ledger.{Answer, refused}
-use Rattle.tables.specs.Layout.{dataOffset, dataSize, neighborPrev, neighborNext, word}
+use Rattle.tables.specs.Layout.{dataOffset, dataSize, word}
 use Rattle.tables.specs.Words.{Words}
 use Rattle.tables.specs.Gate.{gated}
 use Rattle.tables.specs.Search.{Found, class-is, no-class, bad-bits, findFor}
 use Rattle.tables.specs.Take.{TakePlan, whole, split, planSpare, planRegion, planRecord, planClass, planTake}
-use Rattle.tables.specs.HandBack.{BackPlan, merge, Merged, isLive, isFree, mergedOf, planMerged, planSides, planNeighbours}
+use Rattle.tables.specs.HandBack.{BackPlan, merge, Merged, isFree, mergedOf, planMerged, planSides, planNeighbours}
 
 -- what holds of both arms holds of the choice
 pub either : {A : Type 0} (P : A → Type 0) (t : Bool) {a b : A} → P a → P b → P (cond t a b)

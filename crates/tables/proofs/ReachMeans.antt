@@ -30,6 +30,9 @@ not-both n i one (inr (inr h)) (inr l) = h .1 (l .1)
 
 pub reach-means : ReachMeans
 reach-means = record {
+  kept-head = λ k. (k .size-is, k .count-is);
+  kept-arrays = λ k. (k .heads-length, k .leaves-length);
+  kept-lengths = λ k. (k .nodes-length, k .pile-length);
   kept-nodes = λ {n} {w} {v} k. same-beyond (nodesNeeded n) (v .nodes) (w .nodes) (k .nodes-length) (k .nodes-beyond);
   kept-pile = λ {n} {w} {v} k. same-beyond (pileNeeded n) (v .pile) (w .pile) (k .pile-length) (k .pile-beyond);
   agree-on = λ k a b l m e. record { long = l; long-too = m; same = read-alike k a b e };

@@ -1,6 +1,6 @@
 -- The words know which records are live: a size query on sound words answers as the ledger. Assumes nothing.
 use mathlib.Core.Path.{_≡_, ap, sym, _∙_}
-use mathlib.Core.Bool.{true, false, cond}
+use mathlib.Core.Bool.{true, false}
 use mathlib.Core.List.{List, []}
 use Prim.Native.Nat.{ℕ, _<_}
 use native.Mathlib.Omega.{arith}
@@ -9,14 +9,14 @@ use Rattle.basics.specs.Sum.{one, tally}
 use Rattle.basics.proofs.Decided.{below, beyond, below?}
 use Rattle.basics.proofs.Sums.{tally-reverseAux}
 use Rattle.basics.proofs.Counts.{is-own, one-below}
-use Rattle.ledger.specs.Ledger.{Ledger, Region, live, free, len, length-is, refused, sizeOf, by-class, Stacks}
+use Rattle.ledger.specs.Ledger.{Ledger, Region, live, free, len, sizeOf, by-class, Stacks}
 use Rattle.ledger.specs.Calls.{spanOf}
 use Rattle.ledger.specs.WellFormed.{has}
 use Rattle.ledger.specs.Claims.{Live}
 use Rattle.ledger.proofs.Places.{Between, sum-at, between-at}
 use Rattle.ledger.proofs.Find.{Found, missing, at, found?}
 use Rattle.ledger.proofs.Cases.{LiveCase, is-live, is-elsewhere, not-live, live-case}
-use Rattle.tables.specs.Layout.{dataOffset, dataSize, used, word}
+use Rattle.tables.specs.Layout.{dataOffset, used, word}
 use Rattle.tables.specs.Words.{Words, Edition}
 use Rattle.tables.specs.HandBack.{isLive}
 use Rattle.tables.specs.Questions.{lengthOf}

@@ -1,5 +1,6 @@
 -- What sound tables ask, part by part: the records of specs/SoundMeans.antt made. Assumes nothing.
 use mathlib.Core.Path.{_≡_, refl, ap}
+use mathlib.Core.Logic.{_≢_}
 use mathlib.Core.Bool.{false}
 use mathlib.Core.List.{List, [], _∷_}
 use Prim.Native.Nat.{ℕ, _≤_}
@@ -18,18 +19,33 @@ use Rattle.tables.specs.Linked.{mask, nonZero}
 use Rattle.tables.specs.Setup.{tablesAlone, setupWords}
 use Rattle.tables.specs.Calls.{edition32, answerWords}
 use Rattle.tables.specs.Examples.{desk}
-use Rattle.tables.specs.SoundMeans.{ofTwo, AllRight, OneWrong}
+use Rattle.tables.specs.SoundMeans.{ofTwo, twiceStacked, AllRight, OneWrong}
 use Rattle.tables.proofs.OverRuns.{demand-2}
 
 -- two numbers that are not the same
 never : (a b : ℕ) → eqb a b ≡ false → a ≡ b → ⊥
 never a b t e = elim (same? a b) [ same p q ↦ no-and-yes t q | differ n q ↦ n e ]
 
+-- at another class than 300 no record comes on top
+elsewhere : (c : ℕ) → c ≢ 300 → twiceStacked .index c ≡ ofTwo .index c
+elsewhere c n = elim (same? c 300) [ same p e ↦ absurd (n p) | differ q e ↦ rw e refl ]
+
 pub all-right : AllRight
-unfolding ofTwo desk
+unfolding ofTwo desk end answer answerWords setupWords roundedUp word put putLink insert insertAt insertNodes joinNodes unlink unlinkAt pushPile popPile
+    mask nonZero leadingZeros trailingZeros onTop without lowestFrom
 all-right = record {
   all-right =
       demand-2 edition32 100 6 (tablesAlone (replicate (nodesNeeded 6) 7) (replicate (pileNeeded 6) 7)) refl (takes 20 ∷ takes 30 ∷ []) .1;
+  right-word = (refl, refl, refl);
+  right-bits = refl;
+  right-heads = refl;
+  right-tables = refl;
+  right-pile = refl;
+  right-total = refl;
+  only-limit = (refl, refl);
+  only-greatest = (refl, refl);
+  only-300 = elsewhere;
+  line-and-pile = (refl, refl);
 }
 
 pub one-wrong : OneWrong

@@ -41,7 +41,12 @@ Written n i = (i < 7) ⊎ ((i < nodesNeeded n) × (i % 8 ≡ used))
 
 -- ---- the same, from the other side: which words exactly these definitions cover, up to the last
 pub record ReachMeans : Type 0 where
-  -- KeptBeyond: the whole rest of each table, from the first word that n records do not need
+  -- KeptBeyond: size and count, the lengths of the arrays and of the tables
+  pub kept-head : {n : ℕ} {w v : Words} → KeptBeyond n w v → (v .size ≡ w .size) × (v .count ≡ w .count)
+  pub kept-arrays : {n : ℕ} {w v : Words} → KeptBeyond n w v → (length (w .binIndices) ≡ 256 → length (v .binIndices) ≡ 256)
+      × (length (w .usedBins) ≡ 32 → length (v .usedBins) ≡ 32)
+  pub kept-lengths : {n : ℕ} {w v : Words} → KeptBeyond n w v → (length (v .nodes) ≡ length (w .nodes)) × (length (v .pile) ≡ length (w .pile))
+  -- and the whole rest of each table, from the first word that n records do not need
   pub kept-nodes : {n : ℕ} {w v : Words} → KeptBeyond n w v → drop (nodesNeeded n) (v .nodes) ≡ drop (nodesNeeded n) (w .nodes)
   pub kept-pile : {n : ℕ} {w v : Words} → KeptBeyond n w v → drop (pileNeeded n) (v .pile) ≡ drop (pileNeeded n) (w .pile)
   -- AgreeOn asks no more than that the first k words are the same, and Agree no more than that of the tables

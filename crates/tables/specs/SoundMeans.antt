@@ -1,5 +1,7 @@
 -- What sound tables ask, told from the other side: a store that is sound for its ledger, and the same with one thing wrong and all the rest right,
 -- for each part of Sound. Two records, which proofs/SoundMeans.antt makes. Assumes nothing.
+use mathlib.Core.Path.{_≡_}
+use mathlib.Core.Logic.{_≢_}
 use mathlib.Core.Bool.{cond}
 use mathlib.Core.List.{List, [], _∷_, _++_}
 use Prim.Native.Nat.{ℕ}
@@ -41,6 +43,19 @@ twiceStacked = record { line = ofTwo .line; pile = ofTwo .pile; index = λ c. co
 
 pub record AllRight : Type 0 where
   pub all-right : Stands afterTwo
+  -- and all the rest is right below: with the right word, bits, tops, tables, pile or total put in, they are these words again
+  pub right-word : (butWord 2 dataOffset 50 ≡ afterTwo) × (butWord 1 used 1 ≡ afterTwo) × (butWord 2 dataSize 50 ≡ afterTwo)
+  pub right-bits : butBits (afterTwo .usedBinsTop) (afterTwo .usedBins) ≡ afterTwo
+  pub right-heads : butHeads (afterTwo .binIndices) ≡ afterTwo
+  pub right-tables : withTables afterTwo (afterTwo .nodes) (afterTwo .pile) ≡ afterTwo
+  pub right-pile : withPile afterTwo 2 (afterTwo .pile) ≡ afterTwo
+  pub right-total : withTotal afterTwo 50 ≡ afterTwo
+  -- the two editions have another limit, or another greatest size, and nothing else
+  pub only-limit : (edition5 .none ≡ edition32 .none) × (edition5 .greatest ≡ edition32 .greatest)
+  pub only-greatest : (edition99 .none ≡ edition32 .none) × (edition99 .limit ≡ edition32 .limit)
+  -- the ledger has one stack more
+  pub only-300 : (c : ℕ) → c ≢ 300 → twiceStacked .index c ≡ ofTwo .index c
+  pub line-and-pile : (twiceStacked .line ≡ ofTwo .line) × (twiceStacked .pile ≡ ofTwo .pile)
 
 pub record OneWrong : Type 0 where
   -- ---- room: a word of a table missing, a word of an array too many, a count or a size that the edition has not

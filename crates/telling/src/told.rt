@@ -7,9 +7,7 @@ ghost use Rattle.answers.specs.Answers.{startSays};
 ghost use Rattle.answers.specs.Answers.{takeSays};
 ghost use Rattle.answers.specs.Answers.{backSays};
 ghost use Rattle.answers.specs.Answers.{sizeSays, reportSays, fullSays, columns};
-ghost use Rattle.answers.specs.Answers.{auditSays};
 ghost use Rattle.telling.specs.Told.{told, toldAs, classIn, heldIn, oneIfHeld, classesHeld};
-use answers::AuditAnswer;
 use answers::BackAnswer;
 use answers::FullAnswer;
 use answers::FullOutcome;
@@ -82,16 +80,6 @@ pub fn of_report(answer: ReportAnswer) -> Answer
             Answer::Free(total.0, largest.0)
         }
         ReportAnswer::Refused(why) => Answer::Refused(why.number()),
-    }
-}
-
-// Yes is done.
-pub fn of_audit(answer: AuditAnswer) -> Answer
-    ensures { λ r. ⌜ r ≡ told (auditSays answer) ⌝ }
-{
-    match answer {
-        AuditAnswer::Sound => Answer::Done,
-        AuditAnswer::Refused(why) => Answer::Refused(why.number()),
     }
 }
 

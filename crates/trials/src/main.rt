@@ -1,11 +1,9 @@
 // The calls, tried in both forms. Without an argument: the oracle's list of runs is read from standard input and its calls are made, in place and
-// by value, on tables for 1,024 records, the most that a run of the list has; printed is how many rows agree with what the port answers. Then
-// every call is made on spoiled tables.
+// by value, on tables for 1,024 records, the most that a run of the list has; printed is how many rows agree with what the port answers.
 //
 // With an argument long runs are compared, which tools/long-run pipes in, on tables for 1,048,576 records, one form at a time: with one argument in
 // place, with two by value. The tables take 36 MiB, so tools/long-run asks for a stack that holds them.
 mod list;
-mod spoiled;
 
 use list::outcome;
 use list::runs;
@@ -104,6 +102,5 @@ fn main() {
         print_long(arguments - 1);
     } else {
         print_list();
-        spoiled::print();
     }
 }

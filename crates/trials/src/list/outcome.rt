@@ -18,7 +18,8 @@ pub fn print_outcome(comparison: Comparison) {
     if tally.other != 0 {
         line(b"first at row ", tally.first);
     }
-    let reader = comparison.reader;
+    let input = comparison.input;
+    let reader = input.reader;
     if !reader.ends_well() {
         line(b"spoiled after row ", tally.rows);
     }

@@ -1,9 +1,10 @@
 // The list of runs, compared: each row's call is made in place and by value, or in one of the forms, each on tables of its own, and a row agrees only
 // if every form that is made answers as it says.
+ghost use Prim.Native.Nat.{_<_};
+use crate::list::input;
+use crate::list::input::Input;
 use call_values::call::Call;
-use libc::STDIN_FILENO;
 use offset_allocator::head::Head;
-use oracle_lists::rows::Reader;
 use oracle_lists::tally::Tally;
 use records::totals::Totals;
 use run_rows::asked;
@@ -14,7 +15,7 @@ use run_rows::full;
 // and tables.
 pub struct Comparison {
     pub forms: Forms,
-    pub reader: Reader,
+    pub input: Input,
     pub tally: Tally,
     pub classes: u32,
     pub totals: Totals,
@@ -28,7 +29,7 @@ fn begin(forms: Forms) -> Comparison {
     let bin_indices = [0u32; 256];
     Comparison {
         forms,
-        reader: Reader::new(),
+        input: input::begin(),
         tally: Tally::new(),
         classes: 0,
         totals: zeros,
@@ -40,14 +41,66 @@ fn begin(forms: Forms) -> Comparison {
     }
 }
 
+// The list read on to its next row.
+fn read_on(comparison: Comparison, buffer: &mut [u8; 65536]) -> Comparison {
+    let forms = comparison.forms;
+    let before = comparison.input;
+    let tally = comparison.tally;
+    let totals = comparison.totals;
+    let head = comparison.head;
+    Comparison {
+        forms,
+        input: input::next(before, buffer),
+        tally,
+        classes: comparison.classes,
+        totals,
+        head,
+    }
+}
+
+// What the row asks, once it is whole.
+fn asked_by(comparison: Comparison) -> Call {
+    let input = comparison.input;
+    if !input.whole {
+        return Call::Nothing;
+    }
+    asked::call_of(input.reader)
+}
+
+// What is asked of the form in place: nothing, if it is not compared.
+fn call_in_place(comparison: Comparison) -> Call {
+    let forms = comparison.forms;
+    forms.call_in_place(asked_by(comparison))
+}
+
+// The call made by value, if that form is compared.
+fn make_by_value(
+    comparison: Comparison,
+    nodes: &mut [u32],
+    free_nodes: &mut [u32],
+) -> asking_by_value::Called {
+    let forms = comparison.forms;
+    let head = comparison.head;
+    calling_by_value::make(
+        forms.call_by_value(asked_by(comparison)),
+        head,
+        nodes,
+        free_nodes,
+    )
+}
+
 // What both forms answered to the row's call, held against the row and counted.
 fn count(
     comparison: Comparison,
-    call: Call,
     placed: calling_in_place::Called,
     valued: asking_by_value::Called,
 ) -> Comparison {
-    let row = comparison.reader;
+    let input = comparison.input;
+    if !input.whole {
+        return comparison;
+    }
+    let row = input.reader;
+    let call = asked::call_of(row);
     let forms = comparison.forms;
     let tally = comparison.tally;
     let in_place = placed.answer;
@@ -59,7 +112,7 @@ fn count(
     let head = valued.head;
     Comparison {
         forms,
-        reader: row,
+        input,
         tally: tally.count(verdict),
         classes: full::classes_after(row, comparison.classes),
         totals,
@@ -67,40 +120,7 @@ fn count(
     }
 }
 
-// The call made in place, if that form is compared.
-fn make_in_place(
-    comparison: Comparison,
-    call: Call,
-    bin_indices: &mut [u32; 256],
-    used_bins: &mut [u8; 32],
-    nodes: &mut [u32],
-    free_nodes: &mut [u32],
-) -> calling_in_place::Called {
-    let forms = comparison.forms;
-    let t = comparison.totals;
-    calling_in_place::make(
-        forms.call_in_place(call),
-        t,
-        bin_indices,
-        used_bins,
-        nodes,
-        free_nodes,
-    )
-}
-
-// The call made by value, if that form is compared.
-fn make_by_value(
-    comparison: Comparison,
-    call: Call,
-    nodes: &mut [u32],
-    free_nodes: &mut [u32],
-) -> asking_by_value::Called {
-    let forms = comparison.forms;
-    let head = comparison.head;
-    calling_by_value::make(forms.call_by_value(call), head, nodes, free_nodes)
-}
-
-// A whole row: its call is made in each form that is compared, and the answers are judged.
+// A row: its call is made in each form that is compared, and the answers are judged.
 fn compare_row(
     comparison: Comparison,
     bin_indices: &mut [u32; 256],
@@ -110,79 +130,29 @@ fn compare_row(
     value_nodes: &mut [u32],
     value_free_nodes: &mut [u32],
 ) -> Comparison {
-    let call = asked::call_of(comparison.reader);
-    let placed = make_in_place(comparison, call, bin_indices, used_bins, nodes, free_nodes);
-    let valued = make_by_value(comparison, call, value_nodes, value_free_nodes);
-    count(comparison, call, placed, valued)
+    let t = comparison.totals;
+    let placed = calling_in_place::make(
+        call_in_place(comparison),
+        t,
+        bin_indices,
+        used_bins,
+        nodes,
+        free_nodes,
+    );
+    let valued = make_by_value(comparison, value_nodes, value_free_nodes);
+    count(comparison, placed, valued)
 }
 
-// One byte more; where it ends a row, the row is compared.
-fn feed(
-    comparison: Comparison,
-    byte: u8,
-    bin_indices: &mut [u32; 256],
-    used_bins: &mut [u8; 32],
-    nodes: &mut [u32],
-    free_nodes: &mut [u32],
-    value_nodes: &mut [u32],
-    value_free_nodes: &mut [u32],
-) -> Comparison {
-    let before = comparison.reader;
-    let reader = before.feed(byte);
-    let tally = comparison.tally;
-    let totals = comparison.totals;
-    let head = comparison.head;
-    let forms = comparison.forms;
-    let read = Comparison {
-        forms,
-        reader,
-        tally,
-        classes: comparison.classes,
-        totals,
-        head,
-    };
-    if reader.is_whole() {
-        return compare_row(
-            read,
-            bin_indices,
-            used_bins,
-            nodes,
-            free_nodes,
-            value_nodes,
-            value_free_nodes,
-        );
+// One turn fewer; none where the list has come to its end.
+fn turns_left(turns: u64, comparison: Comparison) -> u64
+    requires { ⌜ 0 < turns ⌝ }
+    ensures { λ r. ⌜ r < turns ⌝ }
+{
+    let input = comparison.input;
+    if input.held == 0 {
+        return 0;
     }
-    read
-}
-
-// All of the bytes, in order.
-fn feed_all(
-    comparison: Comparison,
-    bytes: &[u8],
-    bin_indices: &mut [u32; 256],
-    used_bins: &mut [u8; 32],
-    nodes: &mut [u32],
-    free_nodes: &mut [u32],
-    value_nodes: &mut [u32],
-    value_free_nodes: &mut [u32],
-) -> Comparison {
-    let mut fed = comparison;
-    let mut i = 0;
-    while i < bytes.len() {
-        let byte = bytes[i];
-        i += 1;
-        fed = feed(
-            fed,
-            byte,
-            bin_indices,
-            used_bins,
-            nodes,
-            free_nodes,
-            value_nodes,
-            value_free_nodes,
-        );
-    }
-    fed
+    turns - 1
 }
 
 // The list to its end. A proved loop has to end, and nothing says that the input does: so turns are counted down, from a number that no
@@ -197,17 +167,11 @@ pub fn compare_input(
     value_free_nodes: &mut [u32],
 ) -> Comparison {
     let mut comparison = begin(forms);
-    let mut buffer = io::large_buffer();
+    let mut buffer = [0u8; 65536];
     let mut turns = u64::MAX;
     while turns > 0 {
-        turns -= 1;
-        let n = io::read_full(STDIN_FILENO, &mut buffer);
-        if n == 0 {
-            return comparison;
-        }
-        comparison = feed_all(
-            comparison,
-            &buffer[..n],
+        comparison = compare_row(
+            read_on(comparison, &mut buffer),
             bin_indices,
             used_bins,
             nodes,
@@ -215,6 +179,7 @@ pub fn compare_input(
             value_nodes,
             value_free_nodes,
         );
+        turns = turns_left(turns, comparison);
     }
     comparison
 }

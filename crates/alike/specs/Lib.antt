@@ -1,2 +1,0 @@
--- Numbers: an answer as numbers.
-pub mod Numbers

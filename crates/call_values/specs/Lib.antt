@@ -1,2 +1,0 @@
--- Stores: a store with totals or arrays of zeros.
-pub mod Stores

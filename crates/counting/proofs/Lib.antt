@@ -1,2 +1,0 @@
--- Raised: a counter of 0 was never raised.
-pub mod Raised

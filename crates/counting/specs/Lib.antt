@@ -1,2 +1,0 @@
--- Counted: how calls are counted.
-pub mod Counted

@@ -1,0 +1,3 @@
+-- Classes: size classes, smallest stores and lengths of tables in plain numbers. OneResult: any two results coincide.
+pub mod Classes
+pub mod OneResult

@@ -1,2 +1,0 @@
--- Judged: what is held against each call.
-pub mod Judged

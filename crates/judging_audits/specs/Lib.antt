@@ -1,2 +1,0 @@
--- Audits: what is held against an audit.
-pub mod Audits
