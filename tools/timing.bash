@@ -10,28 +10,21 @@ quietly() {
     "$@" > "$made/log" 2>&1 || { cat "$made/log" >&2; exit 1; }
 }
 
-# programs NAME...: each proved, built and left in the folder. Where the kit emulates, the times of the port say nothing, unless NATIVE names a program
-# that makes binaries for the machine itself: `$NATIVE REPOSITORY CRATE FILE` builds the program CRATE and leaves it in FILE.
+# programs NAME...: each proved, built and left in the folder. rt runs each once, here on nothing.
 programs() {
-    local program tools
-    if [ -n "${NATIVE-}" ]; then
-        for program in "$@"; do quietly "$NATIVE" "$PWD" "$program" "$made/$program"; done
-        start=(env)
-        return
-    fi
-    quietly rt check "$@"
-    for program in "$@"; do cp "target/bin/$program" "$made/"; done
-    tools=$(dirname "$(dirname "$(rt doc)")")/on/$(uname -m)/toolchain
-    start=("$tools/lib/ld-linux-x86-64.so.2" --library-path "$tools/lib")
-    if [ -x "$tools/bin/qemu-x86_64" ]; then
-        start=("$tools/bin/qemu-x86_64" "${start[@]}")
-        echo "the port runs emulated here: its times say nothing" >&2
-    fi
+    local program
+    for program in "$@"; do
+        quietly from "crates/$program" rt run
+        cp "crates/$program/out/$program" "$made/"
+    done
+}
+from() {
+    (cd "$1" && shift && "$@" < /dev/null)
 }
 
 # port NAME: that program, on this command's standard input
 port() {
-    "${start[@]}" "$made/$1"
+    "$made/$1"
 }
 
 # the Rust as it is, and its floor (oracle/README.md)

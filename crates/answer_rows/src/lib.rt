@@ -1,5 +1,7 @@
 // What the port answered to a call, as the row of the list of runs that it would write. What was asked is written as it was asked; what was
 // answered, as the port answered it. oracle/README.md has the letters. `trials` makes the calls; that answers are put rightly is proved here.
+#![tactic(auto)]
+
 ghost use Rattle.std.specs.Prelude.{◌≡◌};
 ghost use Rattle.answer_rows.specs.Said.{row, no_row};
 ghost use Rattle.answer_rows.specs.Said.{done_said, length_said, refused_said, no_grant_said, no_span_said, said_of};

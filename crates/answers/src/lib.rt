@@ -2,6 +2,8 @@
 //
 // Every answer is an enum that says done, granted or told, or why not; `number` gives document 01's number of it, 0 where it is no refusal.
 // answers/specs says of each what it is in the ledger's terms.
+#![tactic(auto)]
+
 ghost use Rattle.std.specs.Prelude.{◌≡◌};
 ghost use Rattle.ledger.specs.Figures.{refusal_of};
 ghost use Rattle.answers.specs.Refusals.{number_of};
@@ -10,18 +12,18 @@ ghost use Rattle.answers.specs.Answers.{take_says, back_says, start_says, size_s
 use small_float::Size;
 
 // A record number that was given out. A handle, a class and a size are three types, so that one cannot stand for another.
-#[derive(Drop)]
+#[derive(Clone, Copy)]
 pub struct Handle(pub u32);
 
 // A granted span: where it starts, and its handle. It is handed back whole, and both must agree.
-#[derive(Drop)]
+#[derive(Clone, Copy)]
 pub struct Allocation {
     pub offset: u32,
     pub metadata: Handle,
 }
 
 // Why a call is refused. A refusal changes no word of head or tables; but a refused setup gives a head of zeros.
-#[derive(Drop)]
+#[derive(Clone, Copy)]
 pub enum Refusal {
     // 1: setup with a count below 2 or above the limit
     BadCount,
@@ -58,7 +60,7 @@ impl Refusal {
 }
 
 // Setup and reset.
-#[derive(Drop)]
+#[derive(Clone, Copy)]
 pub enum StartAnswer {
     Done,
     Refused(Refusal),
@@ -77,7 +79,7 @@ impl StartAnswer {
 }
 
 // Take.
-#[derive(Drop)]
+#[derive(Clone, Copy)]
 pub enum TakeAnswer {
     Granted(Allocation),
     Refused(Refusal),
@@ -96,7 +98,7 @@ impl TakeAnswer {
 }
 
 // Hand back.
-#[derive(Drop)]
+#[derive(Clone, Copy)]
 pub enum BackAnswer {
     Done,
     Refused(Refusal),
@@ -115,7 +117,7 @@ impl BackAnswer {
 }
 
 // The size query.
-#[derive(Drop)]
+#[derive(Clone, Copy)]
 pub enum SizeAnswer {
     Length(Size),
     Refused(Refusal),
@@ -134,14 +136,14 @@ impl SizeAnswer {
 }
 
 // The sum of the free lengths, and the value of the highest class that holds a region.
-#[derive(Drop)]
+#[derive(Clone, Copy)]
 pub struct StorageReport {
     pub total_free_space: Size,
     pub largest_free_region: Size,
 }
 
 // The report.
-#[derive(Drop)]
+#[derive(Clone, Copy)]
 pub enum ReportAnswer {
     Report(StorageReport),
     Refused(Refusal),
@@ -159,14 +161,14 @@ impl ReportAnswer {
     }
 }
 
-#[derive(Drop)]
+#[derive(Clone, Copy)]
 pub enum FullOutcome {
     Counted,
     Refused(Refusal),
 }
 
 // The full report: of each class from 0 to 255 its value, and how many free regions it holds; all 0 where the outcome is a refusal.
-#[derive(Drop)]
+#[derive(Clone, Copy)]
 pub struct FullAnswer {
     pub outcome: FullOutcome,
     pub sizes: [u64; 256],
@@ -186,14 +188,14 @@ impl FullAnswer {
 }
 
 // How full the store is: the live lengths summed, and how many of 256 equal parts of the store they fill, rounded down.
-#[derive(Drop)]
+#[derive(Clone, Copy)]
 pub struct Fill {
     pub live: Size,
     pub fill: u16,
 }
 
 // The fill.
-#[derive(Drop)]
+#[derive(Clone, Copy)]
 pub enum FillAnswer {
     Told(Fill),
     Refused(Refusal),
@@ -212,7 +214,7 @@ impl FillAnswer {
 }
 
 // The audit.
-#[derive(Drop)]
+#[derive(Clone, Copy)]
 pub enum AuditAnswer {
     Sound,
     Refused(Refusal),

@@ -1,6 +1,8 @@
 // The questions: `allocation_size`, `storage_report` and `storage_report_full` of the Rust, and how full the store is, in place. Nothing is written.
 //
 // Each is lent all that the other calls are lent, to be read.
+#![tactic(auto)]
+
 ghost use Rattle.ledger.specs.Calls.{SizeOf, Report, FullReport, Fill};
 ghost use Rattle.answers.specs.Asked.{token_of};
 ghost use Rattle.records.specs.InWords.{words_of};

@@ -1,4 +1,6 @@
 // The questions by value, as they come as values: the head goes in, and comes out as it was.
+#![tactic(auto)]
+
 ghost use Rattle.std.specs.Prelude.{◌≡◌};
 ghost use Rattle.tables.specs.Words.{Words};
 ghost use Rattle.offset_allocator.specs.HeadWords.{head_words};
@@ -12,7 +14,7 @@ use offset_allocator::head::Head;
 use telling::told;
 
 // What a call by value answered, and the head that it gave back.
-#[derive(Drop)]
+#[derive(Clone, Copy)]
 pub struct Called {
     pub answer: Answer,
     pub head: Head,

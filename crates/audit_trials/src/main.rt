@@ -1,8 +1,10 @@
 // Reads the oracle's list of spoiled tables from standard input and says how many of its rows agree with the audit.
+#![tactic(auto)]
+
 mod parts;
 mod rows;
 
-use libc::STDOUT_FILENO;
+use streams::STDOUT_FILENO;
 
 // A line: a text, then a number.
 fn line(text: &[u8], n: u64) {

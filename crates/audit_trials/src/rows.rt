@@ -3,12 +3,12 @@
 // audits the store as it stands. An answer is 0 for yes, or a refusal's number.
 use crate::parts;
 use audit_verdicts::State;
-use libc::STDIN_FILENO;
 use oracle_lists::rows::Reader;
 use oracle_lists::tally::{Tally, Verdict};
+use streams::STDIN_FILENO;
 
 // The list read so far: the row that is being read, the tally of those before it, and the store that they made.
-#[derive(Drop)]
+#[derive(Clone, Copy)]
 pub struct Comparison {
     pub reader: Reader,
     pub tally: Tally,

@@ -1,4 +1,6 @@
 // A store that is audited: its scalars, and how much of each table is lent. The arrays stand beside it, long enough for the list's stores.
+#![tactic(auto)]
+
 ghost use Rattle.std.specs.Prelude.{◌≡◌};
 ghost use Rattle.answers.specs.Answers.{audit_says};
 ghost use Rattle.audit_verdicts.specs.Audited.{no_store_yet, number_in, number_with, audit_number, OnlyIf};
@@ -7,7 +9,7 @@ use answers::AuditAnswer;
 use oracle_lists::tally::Verdict;
 use records::totals::Totals;
 
-#[derive(Drop)]
+#[derive(Clone, Copy)]
 pub struct State {
     pub totals: Totals,
     pub nodes: u32,

@@ -5,7 +5,7 @@ use mathlib.Core.List.{List, [], ◌∷◌, ◌++◌}
 use Prim.Native.Nat.{ℕ}
 use lib.ListN.{replicate}
 use Rattle.ledger.specs.Ledger.{Answer, done, granted, refused}
-use Rattle.ledger.specs.Calls.{takes, hands_back_lem, end}
+use Rattle.ledger.specs.Calls.{takes, gives_back, end}
 use Rattle.tables.specs.Layout.{neighbor_next, used, put, put_link, word}
 use Rattle.tables.specs.Words.{Words, with_nodes, with_total, with_lists, words_from}
 use Rattle.tables.specs.Steps.{insert, insert_at, insert_nodes, join_nodes, unlink, unlink_at, pop_pile, push_pile}
@@ -22,7 +22,7 @@ fresh = (setup_words edition32 100 5 (tables_alone (replicate 40 7) (replicate 5
 -- a free region of 20 units, a live one of 30, and a free one of 50
 cut_up : Words
 unfolding fresh end answer_words insert insert_at insert_nodes join_nodes unlink unlink_at pop_pile push_pile put put_link word
-cut_up = end (answer_words edition32) (takes 20 ∷ takes 30 ∷ hands_back_lem 0 0 ∷ []) fresh
+cut_up = end (answer_words edition32) (takes 20 ∷ takes 30 ∷ gives_back 0 0 ∷ []) fresh
 
 -- the audit with a scratch of one word too many, in which anything stands
 audited : Words → Answer × List ℕ
@@ -73,7 +73,7 @@ unfolding audited one_live word
 marked_absent = refl
 
 -- a call reads the link 2 as absent, and hands the region back; to the audit it is no absent link
-link_handed_back : (answer_words edition32 (hands_back_lem 0 1) (one_live 2)).0 ≡ done
+link_handed_back : (answer_words edition32 (gives_back 0 1) (one_live 2)).0 ≡ done
 unfolding one_live answer_words word
 link_handed_back = refl
 

@@ -48,7 +48,7 @@ pub record Claims (E : Edition) : Type 0 where
   pub no_other : (w : Words) (scratch : List ℕ)
       → ((audit_words E w scratch).0 ≡ done) ⊎ (((audit_words E w scratch).0 ≡ refused 2) ⊎ ((audit_words E w scratch).0 ≡ refused 6))
   -- ---- "a scratch table .. whose final words are fixed": behind the gate 0 below the count, yes or no, and beyond it as they came;
-  -- before it (bad-count, too_short) all as they came. What stood in it makes no difference to the answer
+  -- before it (bad_count, too_short) all as they came. What stood in it makes no difference to the answer
   pub scratch_length : (w : Words) (scratch : List ℕ) → length (audit_words E w scratch).1 ≡ length scratch
   pub scratch_low : (w : Words) (scratch : List ℕ) → AuditRoom E w scratch → (i : ℕ) → i < w.count
       → get_or (audit_words E w scratch).1 i 0 ≡ 0
@@ -56,7 +56,7 @@ pub record Claims (E : Edition) : Type 0 where
   pub any_scratch : (w : Words) (scratch other : List ℕ) → w.count ≤ length scratch → w.count ≤ length other
       → (audit_words E w scratch).0 ≡ (audit_words E w other).0
   -- ---- "words beyond them are neither read nor written". Not read: tables that agree as far as the count needs, lent with scratches that are
-  -- long enough, give one answer and leave scratches that agree as far, whatever these held. Not written: scratch-beyond
+  -- long enough, give one answer and leave scratches that agree as far, whatever these held. Not written: scratch_beyond
   pub not_read : (w v : Words) (scratch other : List ℕ) → Agree w.count w v → AuditRoom E w scratch → w.count ≤ length other
       → ((audit_words E w scratch).0 ≡ (audit_words E v other).0) × AgreeOn w.count (audit_words E w scratch).1 (audit_words E v other).1
   -- ---- sound words: yes

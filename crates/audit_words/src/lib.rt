@@ -1,9 +1,10 @@
 // The audit on words, before any code of it: what it tests, in specs/, and that it says yes exactly if the words are sound, in proofs/. What its
 // two walks carry from step to step is declared here, so that the code and the words speak of one thing.
+#![tactic(auto)]
 
 // How far along the neighbour chain: the record before, the next one, where that must begin, the used word of the one before, and what was
 // met.
-#[derive(Drop)]
+#[derive(Clone, Copy)]
 pub struct Walk {
     pub prev: u32,
     pub here: u32,
@@ -15,7 +16,7 @@ pub struct Walk {
 }
 
 // How far along a list: the record before, the next one, and the members of all lists so far.
-#[derive(Drop)]
+#[derive(Clone, Copy)]
 pub struct Along {
     pub prev: u32,
     pub here: u32,

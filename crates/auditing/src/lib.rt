@@ -1,4 +1,6 @@
 // The audit: do the words stand for a ledger? docs/AUDIT.md says what it asks and what it tests.
+#![tactic(auto)]
+
 ghost use Rattle.std.specs.Prelude.{◌≡◌, ℕ, ◌≤◌, ◌<◌, ◌+◌, List, length};
 ghost use Rattle.tables.specs.Calls.{edition32};
 ghost use Rattle.tables.specs.Room.{Room, OfHead};

@@ -1,6 +1,8 @@
 // The writes of a hand-back, which cannot fail.
 //
 // Private to the allocator, though Rattle has no word for that: what is required here the gate and the plan have tested.
+#![tactic(auto)]
+
 ghost use Rattle.std.specs.Prelude.{◌≡◌, ◌+◌, ◌≤◌, ◌<◌, [], length};
 ghost use Rattle.basics.specs.Sum.{one};
 ghost use Rattle.tables.specs.HandBack.{drop_if, merging};

@@ -1,6 +1,8 @@
 // What a hand-back finds, or why not: reads only, so that a refusal changes nothing.
 //
 // Private to the allocator, though Rattle has no word for that: the room that is required here the gate has tested.
+#![tactic(auto)]
+
 ghost use Rattle.std.specs.Prelude.{◌≡◌, ℕ, ◌≤◌, ◌<◌, List, []};
 ghost use Rattle.basics.specs.Sum.{one};
 ghost use Rattle.tables.specs.HandBack.{plan_merged, plan_back};
@@ -14,7 +16,7 @@ use records::totals::Totals;
 use small_float::Size;
 
 // What the merged region will be: the record it is under, its length, its offset, the links to its neighbours, and the free total with it.
-#[derive(Drop)]
+#[derive(Clone, Copy)]
 pub struct Merged {
     pub record: Handle,
     pub length: Size,
@@ -25,13 +27,13 @@ pub struct Merged {
 }
 
 // A neighbour by its link, which need not be a record, and whether it is free and so merged.
-#[derive(Drop)]
+#[derive(Clone, Copy)]
 pub struct Neighbor {
     pub link: Handle,
     pub free: bool,
 }
 
-#[derive(Drop)]
+#[derive(Clone, Copy)]
 pub enum Planned {
     Stop(Refusal),
     // the neighbours before and after, and what comes of it
@@ -39,7 +41,7 @@ pub enum Planned {
 }
 
 // What lies on one side: the neighbour, and what it adds to the merged region: its length, its offset, and the link beyond it.
-#[derive(Drop)]
+#[derive(Clone, Copy)]
 pub struct Side {
     pub link: Handle,
     pub free: bool,

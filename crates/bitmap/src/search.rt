@@ -6,7 +6,7 @@ ghost use Rattle.bitmap.specs.InBits.{Tells};
 
 use small_float::Class;
 
-#[derive(Drop)]
+#[derive(Clone, Copy)]
 pub enum Found {
     Lowest(Class),
     // no class from there on holds anything

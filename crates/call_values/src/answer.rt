@@ -1,5 +1,5 @@
 // What the port answers, in the numbers that a row can be held against.
-#[derive(Drop)]
+#[derive(Clone, Copy)]
 pub enum Answer {
     // setup, reset or hand back, done
     Done,

@@ -1,5 +1,5 @@
 // A call as a value, for the list's rows.
-#[derive(Drop)]
+#[derive(Clone, Copy)]
 pub enum Call {
     // a store's size, and its count of records
     SetUp(u32, u32),

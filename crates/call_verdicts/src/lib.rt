@@ -1,4 +1,6 @@
 // The list of runs: what the Rust answered, held against what the port answers.
+#![tactic(auto)]
+
 ghost use Rattle.std.specs.Prelude.{◌≡◌};
 ghost use Rattle.call_verdicts.specs.Verdicts.{same_numbers, call_verdict, both_verdict};
 
@@ -7,7 +9,7 @@ use oracle_lists::tally::Verdict;
 
 // The row that the port would write for a call: its letter and its last two numbers, 0 where it has fewer. The number before the last has
 // 64 bits, as the value of a class has.
-#[derive(Drop)]
+#[derive(Clone, Copy)]
 pub struct Said {
     pub letter: u8,
     pub c: u64,

@@ -18,7 +18,7 @@ lent_in w = lent_of w.bin_indices w.used_bins w.nodes w.pile
 -- what the call that is named promises: it finds the words w, answers a and leaves the words v
 abbrev pub PromiseOf : Edition → Call → (w v : Words) → Answer → Type 0
 PromiseOf E (Take size) w v a = Promise E (ledger.takes size.0) w v a
-PromiseOf E (HandBack span) w v a = Promise E (ledger.hands_back_lem span.offset span.metadata.0) w v a
+PromiseOf E (HandBack span) w v a = Promise E (ledger.gives_back span.offset span.metadata.0) w v a
 PromiseOf E (SetUp size count) w v a = SetupPromise E size.0 count (lent_in w) v a
 PromiseOf E Reset w v a = Promise E ledger.Reset w v a
 

@@ -1,4 +1,6 @@
 // A call that comes as a value, made in place: the one function for programs and tests that do not know beforehand which call it is.
+#![tactic(auto)]
+
 ghost use Rattle.tables.specs.Calls.{edition32};
 ghost use Rattle.records.specs.InWords.{words_of};
 ghost use Rattle.calls.specs.Values.{says};
@@ -11,7 +13,7 @@ use records::totals::Totals;
 use small_float::Size;
 
 // What it answered, and the head's scalars after it.
-#[derive(Drop)]
+#[derive(Clone, Copy)]
 pub struct Called {
     pub answer: Answer,
     pub totals: Totals,

@@ -1,4 +1,6 @@
 // The calls by value: the head goes in and comes out, and the tables are lent.
+#![tactic(auto)]
+
 ghost use Rattle.std.specs.Prelude.{◌≡◌};
 ghost use Rattle.tables.specs.Words.{Words};
 ghost use Rattle.offset_allocator.specs.HeadWords.{head_words};

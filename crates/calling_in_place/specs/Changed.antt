@@ -11,6 +11,6 @@ use Rattle.telling.specs.Made.{told_by}
 
 abbrev pub changed : Call → Words → Answer × Words
 changed (Take size) w = told_by (answer_words edition32 (ledger.takes size.0) w)
-changed (HandBack span) w = told_by (answer_words edition32 (ledger.hands_back_lem span.offset span.metadata.0) w)
+changed (HandBack span) w = told_by (answer_words edition32 (ledger.gives_back span.offset span.metadata.0) w)
 changed (SetUp size count) w = told_by (setup_words edition32 size.0 count (lent_in w))
 changed Reset w = told_by (answer_words edition32 ledger.Reset w)

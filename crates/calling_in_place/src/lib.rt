@@ -1,4 +1,6 @@
 // The calls in place: the scalars of the head by value, its two arrays and the tables lent.
+#![tactic(auto)]
+
 ghost use Rattle.std.specs.Prelude.{◌≡◌};
 ghost use Rattle.tables.specs.Words.{Words};
 ghost use Rattle.records.specs.InWords.{words_of};
@@ -14,7 +16,7 @@ use records::totals::Totals;
 use small_float::Size;
 use telling::told;
 
-#[derive(Drop)]
+#[derive(Clone, Copy)]
 pub struct Called {
     pub answer: Answer,
     pub totals: Totals,

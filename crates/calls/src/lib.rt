@@ -1,5 +1,7 @@
 // The calls that change something, and their answers, as values: what a journal keeps, and what `calling::make` makes. Questions change nothing and
 // are not among them.
+#![tactic(auto)]
+
 ghost use Rattle.std.specs.Prelude.{◌≡◌};
 ghost use Rattle.ledger.specs.Figures.{refusal_of};
 ghost use Rattle.answers.specs.Answers.{start_says, take_says, back_says};
@@ -8,7 +10,7 @@ ghost use Rattle.calls.specs.Values.{says};
 use answers::{Allocation, BackAnswer, Refusal, StartAnswer, TakeAnswer};
 use small_float::Size;
 
-#[derive(Drop)]
+#[derive(Clone, Copy)]
 pub enum Call {
     // a size
     Take(Size),
@@ -20,7 +22,7 @@ pub enum Call {
 }
 
 // What any of them answers.
-#[derive(Drop)]
+#[derive(Clone, Copy)]
 pub enum Answer {
     // setup, reset or hand back
     Done,

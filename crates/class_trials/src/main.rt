@@ -1,6 +1,8 @@
 // Reads the oracle's list of size classes from standard input and says how many of its rows agree with the port.
-use libc::{STDIN_FILENO, STDOUT_FILENO};
+#![tactic(auto)]
+
 use oracle_lists::classes::Comparison;
+use streams::{STDIN_FILENO, STDOUT_FILENO};
 
 // A line: a text, then a number.
 fn line(text: &[u8], n: u64) {

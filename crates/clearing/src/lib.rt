@@ -1,6 +1,8 @@
 // The words that setup and reset write: the two arrays cleared, each record below the count not live, each on the pile.
 //
 // Private to the allocator, though Rattle has no word for that: the room that is required here the gate has tested.
+#![tactic(auto)]
+
 ghost use Rattle.std.specs.Prelude.{◌≡◌, ◌≤◌, length, replicate};
 ghost use Rattle.tables.specs.Setup.{wiped, piled};
 ghost use Rattle.records.specs.InWords.{HasRoom};

@@ -68,8 +68,8 @@ pub record Demands (E : Edition) : Type 0 where
   pub as_the_ledger : {size count : ℕ} {l : Ledger Stacks} {at_first now : Words} {ds : List Done} → Since E size count l at_first ds now
       → (log_of ds ≡ log (answer by_class size count) (calls_of ds) l) × Sound E now (ledger_after size count l ds)
   -- "Live and free regions cover the store ..": all that is claimed of ledgers (ledger/specs/Claims.antt: inside, disjoint, filled, separated,
-  -- refused-exactly and the rest) holds of that ledger, for it is well formed; and what is claimed of ledgers that are reached (live-at-most,
-  -- history-sum and their fellows) after a setup or a reset
+  -- refused_exactly and the rest) holds of that ledger, for it is well formed; and what is claimed of ledgers that are reached (live_at_most,
+  -- history_sum and their fellows) after a setup or a reset
   pub well_formed : {size count : ℕ} {l : Ledger Stacks} {at_first now : Words} {ds : List Done} → Since E size count l at_first ds now
       → Claims size count × WellFormed by_class size count (ledger_after size count l ds)
   pub reached : (size count : ℕ) (ds : List Done) → Reached by_class size count (ledger_after size count (setup by_class size count) ds)

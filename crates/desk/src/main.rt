@@ -1,5 +1,7 @@
 // Document 01 from the proved functions: its run to follow and the full report after it, its table of size classes, and the smallest store of two
 // objects.
+#![tactic(auto)]
+
 mod classes;
 mod full;
 mod run;

@@ -10,7 +10,7 @@ const SIZE: u32 = 100;
 const COUNT: u32 = 6;
 
 // The head, and a record that holds a region, for the strip to start from.
-#[derive(Drop)]
+#[derive(Clone, Copy)]
 struct Desk {
     head: Head,
     record: u32,

@@ -1,5 +1,5 @@
 // Text and numbers, written to standard output.
-use libc::STDOUT_FILENO;
+use streams::STDOUT_FILENO;
 
 pub fn print(text: &[u8]) {
     io::write_all(STDOUT_FILENO, text);

@@ -1,4 +1,6 @@
 // Seeded draws: a linear congruential generator, and the numbers that are made of its seeds. Whoever draws keeps the seed.
+#![tactic(auto)]
+
 ghost use Rattle.std.specs.Prelude.{◌≡◌};
 ghost use Rattle.draws.specs.Draws.{next_seed, high_half, high_below, whole_word};
 

@@ -5,7 +5,7 @@ use crate::rows::Plan;
 use offset_allocator::head::Head;
 use small_float::Size;
 
-#[derive(Drop)]
+#[derive(Clone, Copy)]
 struct State {
     head: Head,
     draws: Draws,

@@ -5,7 +5,7 @@ use crate::rows::Plan;
 use records::totals::Totals;
 use small_float::Size;
 
-#[derive(Drop)]
+#[derive(Clone, Copy)]
 pub struct State {
     pub totals: Totals,
     pub draws: Draws,

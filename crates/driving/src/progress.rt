@@ -27,7 +27,7 @@ pub const REFUSED: u32 = 4294967295;
 
 // The kind of run; the number of spans below which the next call takes, for which a toss does not ask; the seed; the number of spans that are out;
 // the sum of all answers.
-#[derive(Drop)]
+#[derive(Clone, Copy)]
 pub struct Draws {
     pub run: u32,
     pub top: u32,

@@ -1,10 +1,10 @@
 // The rows of the input, and what is printed of a run.
 use crate::progress::Draws;
-use libc::{STDIN_FILENO, STDOUT_FILENO};
 use oracle_lists::rows::Reader;
+use streams::{STDIN_FILENO, STDOUT_FILENO};
 
 // What a row asks for: which run, the store's size and its number of records, and how many calls.
-#[derive(Drop)]
+#[derive(Clone, Copy)]
 pub struct Plan {
     pub run: u32,
     pub size: u32,

@@ -1,6 +1,8 @@
 // storage_report_full behind the gate: the value of each class, and the length of its list.
 //
 // Private to the allocator, though Rattle has no word for that: the room that is required here the gate has tested.
+#![tactic(auto)]
+
 ghost use Rattle.std.specs.Prelude.{◌≡◌, ℕ, ◌<◌, List, length, get_or, replicate};
 ghost use Rattle.small_float.specs.Class.{value};
 ghost use Rattle.ledger.specs.Ledger.{refused};
@@ -16,7 +18,7 @@ use records::totals::Totals;
 use small_float::Class;
 
 // The steps of a list, or more of them than there are records.
-#[derive(Drop)]
+#[derive(Clone, Copy)]
 pub enum Walked {
     Steps(u32),
     Lost,

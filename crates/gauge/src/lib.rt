@@ -1,4 +1,6 @@
 // A fill gauge: document 02's rule on numbers alone. Which store it is read from is said in `gauging`.
+#![tactic(auto)]
+
 ghost use Rattle.std.specs.Prelude.{◌≡◌};
 ghost use Rattle.ledger.specs.Ledger.{reported};
 ghost use Rattle.answers.specs.Answers.{fill_says};
@@ -9,14 +11,14 @@ use answers::{Fill, FillAnswer, Refusal};
 use small_float::Size;
 
 // How full the store has run, in 256ths of it: a level that follows the fill, and the highest that it was.
-#[derive(Drop)]
+#[derive(Clone, Copy)]
 pub struct Gauge {
     pub level: f32,
     pub peak: f32,
 }
 
 // What a caller keeps from one reading to the next: the gauge, and how many units were live at the last reading.
-#[derive(Drop)]
+#[derive(Clone, Copy)]
 pub struct Watch {
     pub gauge: Gauge,
     pub last: Size,
@@ -38,7 +40,7 @@ impl Watch {
 }
 
 // What a reading tells: the fill, the gauge as it is now, and how many more units are live than at the last reading; below zero, how many fewer.
-#[derive(Drop)]
+#[derive(Clone, Copy)]
 pub struct Reading {
     pub fill: u16,
     pub level: f32,
@@ -46,14 +48,14 @@ pub struct Reading {
     pub net: i64,
 }
 
-#[derive(Drop)]
+#[derive(Clone, Copy)]
 pub enum ReadingAnswer {
     Read(Reading),
     Refused(Refusal),
 }
 
 // The answer, and what to keep for the next reading: what came, if it was refused.
-#[derive(Drop)]
+#[derive(Clone, Copy)]
 pub struct Taken {
     pub answer: ReadingAnswer,
     pub watch: Watch,

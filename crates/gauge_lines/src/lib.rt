@@ -5,6 +5,8 @@
 //   peak    9   likewise
 //   net    12   the live units that came since the last reading: `+` where there are more, `-` where there are fewer, a bare 0 where there are as many
 // A refused reading has `refused` and its number in their place.
+#![tactic(auto)]
+
 ghost use Rattle.std.specs.Prelude.{◌≡◌, unsigned_abs};
 
 mod decimals;

@@ -3,14 +3,14 @@ use crate::{places, readings};
 use pictures::svg;
 
 // How many bytes wait, and whether a line is being drawn.
-#[derive(Drop)]
+#[derive(Clone, Copy)]
 struct Pen {
     waiting: usize,
     down: bool,
 }
 
 // What is drawn: a row of readings, of so many calls; in steps, or from the middle of one call to the middle of the next.
-#[derive(Drop)]
+#[derive(Clone, Copy)]
 struct Curve {
     row: usize,
     calls: u32,

@@ -1,14 +1,16 @@
 // Draws the journal on standard input as an SVG of the fill gauge over its calls: `readings` makes the calls and reads the gauge after each, `curves` draws
 // fill, level and peak, `marks` where the store did not change and where a reading was refused, `places` says where a call stands, and `frame` draws what
 // stands around them. How many calls there are to draw, and the elements of an SVG, are in pictures.
+#![tactic(auto)]
+
 mod curves;
 mod frame;
 mod marks;
 mod places;
 mod readings;
 
-use libc::STDIN_FILENO;
 use pictures::counting;
+use streams::STDIN_FILENO;
 
 // The bytes of a journal, the first of them if it has more than the picture can show. What is marked lies below the curves.
 fn draw(bytes: &[u8], points: &mut [u32; 5000], out: &mut [u8; 65536]) {

@@ -40,7 +40,7 @@ fn mark(waiting: usize, kind: u32, from: u32, to: u32, out: &mut [u8; 65536]) ->
 }
 
 // How many bytes wait, and from where on a name has room.
-#[derive(Drop)]
+#[derive(Clone, Copy)]
 struct Sheet {
     waiting: usize,
     free: u32,

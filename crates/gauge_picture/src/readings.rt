@@ -95,7 +95,7 @@ fn keep_deed(points: &mut [u32; 5000], n: u32, call: Call, answer: Answer) {
 }
 
 // The store's scalars, the gauge, and the place of the next call.
-#[derive(Drop)]
+#[derive(Clone, Copy)]
 struct Stand {
     totals: Totals,
     watch: Watch,

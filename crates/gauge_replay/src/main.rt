@@ -2,6 +2,8 @@
 // (the refusal's number or 0, then a granted take's offset and record), in 18 places, a bar, and the reading in the columns of gauge_lines: fill, level,
 // peak, and the net change of live units; or `refused` and the number. One gauge is begun at 0 and passed from reading to reading. A header comes first.
 // A record that cannot be read is a last line with its number alone, 13, 14 or 15: no call was made, so nothing is read.
+#![tactic(auto)]
+
 use calls::Answer;
 use gauge::{ReadingAnswer, Watch};
 use journal::entry::Broken;
@@ -11,7 +13,7 @@ use records::totals::Totals;
 use replaying::{Outcome, Stepped};
 
 // Where the journal is read next, the store's scalars, the gauge, and how many bytes wait to be written; whether it goes on.
-#[derive(Drop)]
+#[derive(Clone, Copy)]
 struct Replay {
     window: Window,
     totals: Totals,
@@ -61,7 +63,7 @@ fn put_last(why: Broken, waiting: usize, out: &mut [u8; 65536]) -> usize {
 }
 
 // A record read, and its call made: the window behind it, and what came of it.
-#[derive(Drop)]
+#[derive(Clone, Copy)]
 struct Made {
     window: Window,
     stepped: Stepped,

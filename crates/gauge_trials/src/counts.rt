@@ -2,7 +2,7 @@
 use oracle_lists::rows::Reader;
 use oracle_lists::tally::{Verdict, one_more};
 
-#[derive(Drop)]
+#[derive(Clone, Copy)]
 pub struct Counts {
     pub readings: u64,
     pub told: u64,

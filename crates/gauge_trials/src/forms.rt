@@ -10,7 +10,7 @@ use records::totals::Totals;
 use small_float::Size;
 
 // What one form has: the level before the last reading, what that answered and what it left.
-#[derive(Drop)]
+#[derive(Clone, Copy)]
 pub struct Form {
     pub before: f32,
     pub answer: ReadingAnswer,

@@ -1,9 +1,11 @@
 // Reads the oracle's list of gauge readings from standard input, makes each reading in place and by value, and says how many of the rows agree.
+#![tactic(auto)]
+
 mod counts;
 mod forms;
 mod rows;
 
-use libc::STDOUT_FILENO;
+use streams::STDOUT_FILENO;
 
 // A line: a text, then a number.
 fn line(text: &[u8], n: u64) {

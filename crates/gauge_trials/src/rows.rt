@@ -3,16 +3,16 @@
 use crate::counts::Counts;
 use crate::forms::Form;
 use call_verdicts::both;
-use libc::STDIN_FILENO;
 use oracle_lists::rows::Reader;
 use oracle_lists::tally::{Tally, Verdict};
 use records::totals::Totals;
+use streams::STDIN_FILENO;
 
 // The words of the array of zeros.
 const WORDS: u32 = 8192;
 
 // The head's count, the tables' lengths, and what each form has.
-#[derive(Drop)]
+#[derive(Clone, Copy)]
 pub struct State {
     pub count: u32,
     pub nodes: u32,
@@ -22,7 +22,7 @@ pub struct State {
 }
 
 // The list read so far.
-#[derive(Drop)]
+#[derive(Clone, Copy)]
 pub struct Comparison {
     pub reader: Reader,
     pub tally: Tally,

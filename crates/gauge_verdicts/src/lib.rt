@@ -1,4 +1,6 @@
 // The rows of the gauge's list, held against what a reading answered and what it left. The numbers of a float in a row are its bits.
+#![tactic(auto)]
+
 ghost use Rattle.std.specs.Prelude.{◌≡◌, pos, ◌-ℤ◌};
 ghost use Rattle.std.specs.Float.{binary32};
 ghost use Rattle.std.specs.Float.Ieee.{to_bits, of_bits};

@@ -1,4 +1,6 @@
 // The fill gauge read from a store, in place and with the head by value. Nothing of the store is written.
+#![tactic(auto)]
+
 ghost use Rattle.tables.specs.Calls.{edition32};
 ghost use Rattle.records.specs.InWords.{words_of};
 ghost use Rattle.gauge.specs.Answers.{watch_of, reading_says};

@@ -1,4 +1,6 @@
 // Hand back: `free` of the Rust, in place.
+#![tactic(auto)]
+
 ghost use Rattle.std.specs.Prelude.{◌≡◌, ◌≤◌, [], length};
 ghost use Rattle.ledger.specs.Ledger.{done};
 ghost use Rattle.ledger.specs.Calls.{HandBack};
@@ -17,7 +19,7 @@ use back_plan::{Merged, Neighbor, Planned};
 use records::gate::Gate;
 use records::totals::Totals;
 
-#[derive(Drop)]
+#[derive(Clone, Copy)]
 pub struct Returned {
     pub answer: BackAnswer,
     pub totals: Totals,

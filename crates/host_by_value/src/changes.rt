@@ -1,6 +1,6 @@
 // Take and hand back, with the head by value.
 ghost use Rattle.ledger.specs.Figures.{refusal_of};
-ghost use Rattle.ledger.specs.Calls.{takes, hands_back_lem};
+ghost use Rattle.ledger.specs.Calls.{takes, gives_back};
 ghost use Rattle.tables.specs.Calls.{edition32};
 ghost use Rattle.tables.specs.Promise.{Promise};
 ghost use Rattle.host_values.specs.Kept.{words_in};
@@ -14,8 +14,7 @@ use records::totals::Totals;
 use small_float::Size;
 
 // A span of this size: offset and record.
-#[unsafe(no_mangle)]
-pub extern "C" fn ds_by_value_take(
+pub fn ds_by_value_take(
     scalars: &mut [u32; Totals::SCALARS],
     size: u32,
     bins: &mut [u32; 256],
@@ -36,8 +35,7 @@ pub extern "C" fn ds_by_value_take(
 }
 
 // A span goes back.
-#[unsafe(no_mangle)]
-pub extern "C" fn ds_by_value_give(
+pub fn ds_by_value_give(
     scalars: &mut [u32; Totals::SCALARS],
     offset: u32,
     handle: u32,
@@ -46,7 +44,7 @@ pub extern "C" fn ds_by_value_give(
     nodes: &mut [u32],
     pile: &mut [u32],
 ) -> u32
-    ensures { Tells refusal_of (Promise edition32 (hands_back_lem offset handle)
+    ensures { Tells refusal_of (Promise edition32 (gives_back offset handle)
         (words_in scalars.old bins.old leaves.old nodes.old pile.old)
         (words_in scalars.new bins.new leaves.new nodes.new pile.new)) result }
 {

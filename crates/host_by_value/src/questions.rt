@@ -14,8 +14,7 @@ use host_values::Told;
 use records::totals::Totals;
 
 // The length of a live span.
-#[unsafe(no_mangle)]
-pub extern "C" fn ds_by_value_size_of(
+pub fn ds_by_value_size_of(
     scalars: &[u32; Totals::SCALARS],
     offset: u32,
     handle: u32,
@@ -36,8 +35,7 @@ pub extern "C" fn ds_by_value_size_of(
 }
 
 // The sum of the free lengths, and the value of the highest class that holds a region.
-#[unsafe(no_mangle)]
-pub extern "C" fn ds_by_value_report(
+pub fn ds_by_value_report(
     scalars: &[u32; Totals::SCALARS],
     bins: &[u32; 256],
     leaves: &[u8; 32],
@@ -52,8 +50,7 @@ pub extern "C" fn ds_by_value_report(
 }
 
 // The value of each class, and how many free regions it holds: two columns that the caller lends. Refused, both are zeros.
-#[unsafe(no_mangle)]
-pub extern "C" fn ds_by_value_full_report(
+pub fn ds_by_value_full_report(
     scalars: &[u32; Totals::SCALARS],
     bins: &[u32; 256],
     leaves: &[u8; 32],
@@ -76,8 +73,7 @@ pub extern "C" fn ds_by_value_full_report(
 }
 
 // The live lengths summed, and how many of 256 equal parts of the store they fill.
-#[unsafe(no_mangle)]
-pub extern "C" fn ds_by_value_fill(
+pub fn ds_by_value_fill(
     scalars: &[u32; Totals::SCALARS],
     bins: &[u32; 256],
     leaves: &[u8; 32],
@@ -92,8 +88,7 @@ pub extern "C" fn ds_by_value_fill(
 }
 
 // Whether the words stand for a ledger: 0 if they do.
-#[unsafe(no_mangle)]
-pub extern "C" fn ds_by_value_audit(
+pub fn ds_by_value_audit(
     scalars: &[u32; Totals::SCALARS],
     bins: &[u32; 256],
     leaves: &[u8; 32],

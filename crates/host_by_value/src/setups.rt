@@ -13,8 +13,7 @@ use records::totals::Totals;
 use small_float::Size;
 
 // A store of this size, all of it free, with this many records. Refused, the head is one of zeros, its arrays too.
-#[unsafe(no_mangle)]
-pub extern "C" fn ds_by_value_set_up(
+pub fn ds_by_value_set_up(
     scalars: &mut [u32; Totals::SCALARS],
     size: u32,
     count: u32,
@@ -35,8 +34,7 @@ pub extern "C" fn ds_by_value_set_up(
 }
 
 // The same with the count of records that the Rust takes by default.
-#[unsafe(no_mangle)]
-pub extern "C" fn ds_by_value_new(
+pub fn ds_by_value_new(
     scalars: &mut [u32; Totals::SCALARS],
     size: u32,
     bins: &mut [u32; 256],
@@ -56,8 +54,7 @@ pub extern "C" fn ds_by_value_new(
 }
 
 // All spans are forgotten: the store is as after setup.
-#[unsafe(no_mangle)]
-pub extern "C" fn ds_by_value_reset(
+pub fn ds_by_value_reset(
     scalars: &mut [u32; Totals::SCALARS],
     bins: &mut [u32; 256],
     leaves: &mut [u8; 32],

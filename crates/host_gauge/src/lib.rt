@@ -1,5 +1,7 @@
 // The fill gauge for a program in C or Rust. What it keeps from one reading to the next goes in and comes out by value, in plain numbers; nothing of the
 // store is written.
+#![tactic(auto)]
+
 ghost use Rattle.std.specs.Prelude.{◌≡◌};
 ghost use Rattle.gauge.specs.Answers.{watch_of, reading_says};
 ghost use Rattle.host_values.specs.Kept.{words_in};
@@ -13,7 +15,7 @@ use small_float::Size;
 
 // What to keep from one reading to the next: zeros at first.
 #[repr(C)]
-#[derive(Drop)]
+#[derive(Clone, Copy)]
 pub struct Watch {
     pub level: f32,
     pub peak: f32,
@@ -23,7 +25,7 @@ pub struct Watch {
 
 // What a reading tells, with what to keep for the next: level, peak and last. Refused, these are as they came, and fill and net are 0.
 #[repr(C)]
-#[derive(Drop)]
+#[derive(Clone, Copy)]
 pub struct Reading {
     pub number: u32,
     pub fill: u32,

@@ -7,7 +7,7 @@ use calls::Call;
 
 // A call, and the place of the next record; the refusal's number; or neither, at the end.
 #[repr(C)]
-#[derive(Drop)]
+#[derive(Clone, Copy)]
 pub struct Entry {
     pub number: u32,
     pub kind: u32,

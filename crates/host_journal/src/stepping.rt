@@ -14,7 +14,7 @@ use replaying::Outcome;
 // What came of a record: no byte was left (`ended` is 1); it could not be read (`broken` is its number); or its call was made, with the refusal's number,
 // and `granted` 1 beside offset and record where a take was granted. `next` is the place of the next record.
 #[repr(C)]
-#[derive(Drop)]
+#[derive(Clone, Copy)]
 pub struct Step {
     pub ended: u32,
     pub broken: u32,

@@ -9,14 +9,14 @@ use small_float::Size;
 
 // The refusal's number, or the place behind the record.
 #[repr(C)]
-#[derive(Drop)]
+#[derive(Clone, Copy)]
 pub struct Wrote {
     pub number: u32,
     pub next: usize,
 }
 
 // A call that came as three numbers.
-#[derive(Drop)]
+#[derive(Clone, Copy)]
 pub enum Named {
     Known(Call),
     // its kind is none of the four

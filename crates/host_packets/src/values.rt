@@ -12,7 +12,7 @@ use packets::{PacketGrant, PacketLength, PacketRefusal, PacketReport, Store};
 
 // A packet that was granted, or the refusal's number.
 #[repr(C)]
-#[derive(Drop)]
+#[derive(Clone, Copy)]
 pub struct Packet {
     pub number: u32,
     pub store: u32,

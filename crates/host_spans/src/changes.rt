@@ -1,6 +1,6 @@
 // Take and hand back, in place.
 ghost use Rattle.ledger.specs.Figures.{refusal_of};
-ghost use Rattle.ledger.specs.Calls.{takes, hands_back_lem};
+ghost use Rattle.ledger.specs.Calls.{takes, gives_back};
 ghost use Rattle.tables.specs.Calls.{edition32};
 ghost use Rattle.tables.specs.Promise.{Promise};
 ghost use Rattle.host_values.specs.Kept.{words_in};
@@ -45,7 +45,7 @@ pub extern "C" fn ds_give(
     nodes: &mut [u32],
     pile: &mut [u32],
 ) -> u32
-    ensures { Tells refusal_of (Promise edition32 (hands_back_lem offset handle)
+    ensures { Tells refusal_of (Promise edition32 (gives_back offset handle)
         (words_in scalars.old bins.old leaves.old nodes.old pile.old)
         (words_in scalars.new bins.new leaves.new nodes.new pile.new)) result }
 {

@@ -17,7 +17,7 @@ pub const NO_CLASS: u32 = 256;
 
 // The lengths in words of the tables that are lent, and of the audit's scratch.
 #[repr(C)]
-#[derive(Drop)]
+#[derive(Clone, Copy)]
 pub struct Lengths {
     pub number: u32,
     pub nodes: usize,

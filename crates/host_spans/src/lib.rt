@@ -3,6 +3,8 @@
 //
 // No function asks anything of its caller but what the C signature says: pointers to as much as it names, none of which overlap. A handed-back offset or
 // record, a size, tables with anything in them: each is answered.
+#![tactic(auto)]
+
 pub mod changes;
 pub mod classes;
 pub mod lent;

@@ -1,5 +1,7 @@
 // What the answers are outside of Rattle. A program in C or Rust gets no enum: each answer is put into plain numbers there, the refusal's number, 0 for none,
 // and the figures beside it, which are 0 where it is one. specs/Tells.antt has the shape that every contract of the functions for such programs has.
+#![tactic(auto)]
+
 ghost use Rattle.std.specs.Prelude.{◌≡◌};
 ghost use Rattle.ledger.specs.Calls.{Request, Token, Take, Ask, SizeOf, Report, Fill};
 ghost use Rattle.answers.specs.Answers.{take_says, size_says, report_says, fill_says};
@@ -12,7 +14,7 @@ use records::totals::Totals;
 
 // The refusal's number, and at most two figures.
 #[repr(C)]
-#[derive(Drop)]
+#[derive(Clone, Copy)]
 pub struct Told {
     pub number: u32,
     pub first: u32,

@@ -5,7 +5,7 @@ ghost use Rattle.journal.specs.Refusals.{broken_number, wrote_number};
 use calls::Call;
 
 // Why a record cannot be read; the replay ends there.
-#[derive(Drop)]
+#[derive(Clone, Copy)]
 pub enum Broken {
     // 13: fewer bytes stand than its length names, or fewer than four
     Cut,
@@ -29,7 +29,7 @@ impl Broken {
     }
 }
 
-#[derive(Drop)]
+#[derive(Clone, Copy)]
 pub enum Entry {
     // a call, and the place of the next record
     Read(Call, usize),
@@ -38,7 +38,7 @@ pub enum Entry {
     Refused(Broken),
 }
 
-#[derive(Drop)]
+#[derive(Clone, Copy)]
 pub enum Wrote {
     // the place behind the record
     Before(usize),

@@ -1,10 +1,12 @@
 // A journal of any length from standard input, seen through a window: bytes that have been read lie in a buffer, and a record is looked for among those
 // from `at` to `end`. A reading hangs on no more than 65,537 bytes (`windowed` in journal/specs/Claims.antt): where as many are at hand, or all that are
 // left, what stands at `at` is what stands there in the whole journal.
+#![tactic(auto)]
+
 ghost use Rattle.std.specs.Prelude.{◌≡◌, ◌≤◌, length};
 ghost use Rattle.journal_input.specs.Slid.{slid};
 
-use libc::STDIN_FILENO;
+use streams::STDIN_FILENO;
 
 // The longest record: its length's two bytes, and 65,535 more.
 pub const LONGEST: usize = 65537;
@@ -12,7 +14,7 @@ pub const LONGEST: usize = 65537;
 // How long a buffer is best.
 pub const BUFFER: usize = 262144;
 
-#[derive(Drop)]
+#[derive(Clone, Copy)]
 pub struct Window {
     // the place of the next record
     pub at: usize,

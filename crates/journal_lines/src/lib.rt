@@ -1,9 +1,11 @@
 // Calls and answers as lines that are printed together: bytes wait in a buffer until it is full. Each function takes how many bytes wait, and gives that
 // number back. What a line says is proved in journal_text.
+#![tactic(auto)]
+
 use calls::{Answer, Call};
 use journal::entry::Broken;
 use journal_text::writing;
-use libc::STDOUT_FILENO;
+use streams::STDOUT_FILENO;
 
 // What waits is written; nothing waits then.
 pub fn flush(waiting: usize, out: &[u8; 65536]) -> usize {

@@ -148,7 +148,7 @@ fn end_one(
 }
 
 // Where bars end that end now, in a store of which size, and how many records the store has after the call.
-#[derive(Drop)]
+#[derive(Clone, Copy)]
 pub struct End {
     pub x: u32,
     pub size: u32,

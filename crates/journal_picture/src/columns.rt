@@ -10,7 +10,7 @@ use records::totals::Totals;
 
 // How many bytes wait, the number of the column and where it begins, how wide columns are, the size of the store before the call, and whether a
 // scale stands.
-#[derive(Drop)]
+#[derive(Clone, Copy)]
 struct Sheet {
     waiting: usize,
     column: u32,

@@ -1,12 +1,14 @@
 // Draws the journal on standard input as an SVG of the store over its calls, a column a call: `columns` draws them one after the other, `widths` says how
 // wide, `bars` draws the live regions, `frame` what stands around them. How many calls there are to draw, and the elements of an SVG, are in pictures.
+#![tactic(auto)]
+
 mod bars;
 mod columns;
 mod frame;
 mod widths;
 
-use libc::STDIN_FILENO;
 use pictures::counting;
+use streams::STDIN_FILENO;
 
 // The bytes of a journal, the first of them if it has more than the picture can show.
 fn draw(bytes: &[u8], out: &mut [u8; 65536]) {

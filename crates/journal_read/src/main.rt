@@ -1,11 +1,13 @@
 // Prints the journal on standard input, of any length, as the text that `journal_write` reads, a line a call. Where a record is refused, which ends a
 // journal, a last line says so as a comment.
+#![tactic(auto)]
+
 use calls::Call;
 use journal::entry::{Broken, Entry};
 use journal_input::Window;
 
 // Where the journal is read next, how many bytes wait to be written, and whether all is printed.
-#[derive(Drop)]
+#[derive(Clone, Copy)]
 struct Printing {
     window: Window,
     waiting: usize,

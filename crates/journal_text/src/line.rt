@@ -2,7 +2,7 @@
 use calls::Call;
 
 // Why a line holds no call.
-#[derive(Drop)]
+#[derive(Clone, Copy)]
 pub enum Fault {
     // its first word is none of the four
     UnknownWord,
@@ -16,7 +16,7 @@ pub enum Fault {
     TooMuch,
 }
 
-#[derive(Drop)]
+#[derive(Clone, Copy)]
 pub enum Line {
     Holds(Call),
     // nothing but blanks, or a comment
@@ -25,7 +25,7 @@ pub enum Line {
 }
 
 // A word that is wanted to be a number.
-#[derive(Drop)]
+#[derive(Clone, Copy)]
 pub enum Value {
     Is(u32),
     Wrong(Fault),

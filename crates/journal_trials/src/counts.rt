@@ -2,7 +2,7 @@
 // 13 to 15 those that broke off. And the sum of all that is printed, which hangs on every line and on their order.
 use calls::Answer;
 use journal::entry::Broken;
-use libc::STDOUT_FILENO;
+use streams::STDOUT_FILENO;
 
 // What ends a journal in the sum.
 const END: u32 = 4294967295;

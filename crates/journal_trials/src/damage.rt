@@ -1,7 +1,7 @@
 // Damaged journals, one after the other, drawn from one seed.
 use crate::{counts, drawn, replaying_one};
 
-#[derive(Drop)]
+#[derive(Clone, Copy)]
 struct Trial {
     seed: u32,
     sum: u32,

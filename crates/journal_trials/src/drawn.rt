@@ -5,20 +5,20 @@ use journal::entry::Wrote;
 use small_float::Size;
 
 // A number that was drawn, and the seed after it.
-#[derive(Drop)]
+#[derive(Clone, Copy)]
 pub struct Number {
     pub seed: u32,
     pub n: u32,
 }
 
-#[derive(Drop)]
+#[derive(Clone, Copy)]
 pub struct DrawnCall {
     pub seed: u32,
     pub call: Call,
 }
 
 // A journal of so many bytes.
-#[derive(Drop)]
+#[derive(Clone, Copy)]
 pub struct Drawn {
     pub seed: u32,
     pub len: usize,
@@ -26,7 +26,7 @@ pub struct Drawn {
 
 // The span that a take would get if nothing had come back and every take was granted, and the one that the last take would have got. Hand-backs are
 // drawn near the last, for a record and an offset drawn apart hardly ever agree.
-#[derive(Drop)]
+#[derive(Clone, Copy)]
 struct Spans {
     next: Allocation,
     last: Allocation,

@@ -1,6 +1,8 @@
 // Journals tried: those on standard input, a row each, are replayed and their lines printed behind the row's number; then
 // records are written where there is little room; then 100,000 journals are drawn, damaged and
 // replayed, and what came of them is counted and summed up. What must be printed was made by the oracle's own reader (oracle/README.md).
+#![tactic(auto)]
+
 mod counts;
 mod damage;
 mod drawn;

@@ -7,7 +7,7 @@ use replaying::Outcome;
 
 // Where the journal is read next and the store's scalars; whether its lines are shown, how many bytes wait to be printed, and the sum so far; whether it
 // goes on.
-#[derive(Drop)]
+#[derive(Clone, Copy)]
 struct Going {
     at: usize,
     totals: Totals,

@@ -7,7 +7,7 @@ use journal::entry::Wrote;
 use small_float::Size;
 
 // How often there was room, how often not, and the sum.
-#[derive(Drop)]
+#[derive(Clone, Copy)]
 struct Tried {
     room: u32,
     none: u32,

@@ -1,6 +1,6 @@
 // A row is a journal: its bytes in hexadecimal, and `z`, a number and a dot for as many zeros.
 use crate::replaying_one;
-use libc::{STDIN_FILENO, STDOUT_FILENO};
+use streams::{STDIN_FILENO, STDOUT_FILENO};
 
 // All the rows. They are few, and fit the buffer.
 pub fn input(buffer: &mut [u8]) -> usize {
@@ -9,7 +9,7 @@ pub fn input(buffer: &mut [u8]) -> usize {
 
 // What has been read of a row: how many bytes its journal has so far; whether the next digit is the second of a byte, and the first one; whether a
 // number of zeros is being read, and the number.
-#[derive(Drop)]
+#[derive(Clone, Copy)]
 struct Row {
     len: usize,
     half: bool,
@@ -129,7 +129,7 @@ fn print_head(number: u64) {
 }
 
 // The row that is being read, and how many came before it.
-#[derive(Drop)]
+#[derive(Clone, Copy)]
 struct Reading {
     row: Row,
     rows: u64,

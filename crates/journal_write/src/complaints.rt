@@ -1,6 +1,6 @@
 // What is wrong with a line, told on standard error.
 use journal_text::line::Fault;
-use libc::STDERR_FILENO;
+use streams::STDERR_FILENO;
 
 fn say(text: &[u8]) {
     io::write_all(STDERR_FILENO, text);

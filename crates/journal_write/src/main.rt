@@ -1,10 +1,12 @@
 // A text of calls, read from standard input, is written to standard output as a journal: setup 100 6, take 20, back 0 0 or reset on a line. A line of
 // blanks, or one that begins with #, is passed over. A bad line is told on standard error; nothing of it or of any later line is written.
+#![tactic(auto)]
+
 mod complaints;
 mod progress;
 
-use libc::STDIN_FILENO;
 use progress::Progress;
+use streams::STDIN_FILENO;
 
 // All of the bytes, in order.
 fn feed_all(

@@ -3,9 +3,9 @@ use crate::complaints;
 use calls::Call;
 use journal::entry::Wrote;
 use journal_text::line::Line;
-use libc::STDOUT_FILENO;
+use streams::STDOUT_FILENO;
 
-#[derive(Drop)]
+#[derive(Clone, Copy)]
 pub struct Progress {
     // bytes of the line that is being read; 201 stands for any number above 200
     pub length: usize,

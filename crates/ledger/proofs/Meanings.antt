@@ -13,7 +13,7 @@ use Rattle.basics.proofs.Clash.{clash}
 use Rattle.small_float.specs.Class.{down}
 use Rattle.basics.proofs.Decided.{Same, same, differ, same?, Below, below, beyond, below?}
 use Rattle.ledger.specs.Ledger.{Region, live, free, len, Stacks, on_top, Answer, granted, done, length_is, reported, classes, refused, Ledger, Spot, grant, by_class}
-use Rattle.ledger.specs.Calls.{Request, Token, Question, SizeOf, Call, Take, HandBack, Reset, Ask, takes, hands_back_lem, span_of, event}
+use Rattle.ledger.specs.Calls.{Request, Token, Question, SizeOf, Call, Take, HandBack, Reset, Ask, takes, gives_back, span_of, event}
 use Rattle.ledger.specs.Spans.{At, first, later, FreeIn, Among, Disjoint, Leaves, AllLeave}
 use Rattle.ledger.specs.History.{Span, note, live_one}
 use Rattle.ledger.specs.Stretch.{Stretch, ended, grants, returns, refuses, asks}
@@ -218,11 +218,11 @@ unfolding note
 grant_notes_one s o r out = refl
 
 return_strikes_one : (n o r : ℕ) (front back : List Span) → NoneNamed (span_of o r) front
-    → note (event (hands_back_lem o r) done) (front ++ (record { offset = o; size = n; number = r } ∷ back)) ≡ front ++ back
+    → note (event (gives_back o r) done) (front ++ (record { offset = o; size = n; number = r } ∷ back)) ≡ front ++ back
 unfolding note
 return_strikes_one n o r front back h = strikes_one n o r front back h
 
-return_strikes_no_other : (o r : ℕ) (out : List Span) → NoneNamed (span_of o r) out → note (event (hands_back_lem o r) done) out ≡ out
+return_strikes_no_other : (o r : ℕ) (out : List Span) → NoneNamed (span_of o r) out → note (event (gives_back o r) done) out ≡ out
 unfolding note
 return_strikes_no_other o r out h = strikes_no_other (span_of o r) out h
 

@@ -10,7 +10,7 @@ use Rattle.basics.proofs.Decided.{below, beyond, below?}
 use Rattle.small_float.specs.Class.{down, rounded_up}
 use Rattle.ledger.specs.Ledger.{Ledger, live, free, Answer, granted, done, refused, by_class, Stacks}
 use Rattle.ledger.specs.Ledger.{on_top, without, lowest_from, numbers_from, setup, take, hand_back}
-use Rattle.ledger.specs.Calls.{Token, Call, HandBack, takes, hands_back_lem, span_of, hands_back, answers, answer}
+use Rattle.ledger.specs.Calls.{Token, Call, HandBack, takes, gives_back, span_of, hands_back, answers, answer}
 use Rattle.ledger.specs.Claims.{Reached}
 use Rattle.ledger.specs.RunToFollow.{Answering, SmallStores}
 use Rattle.ledger.proofs.Numbers.{length_numbers_from}
@@ -74,15 +74,15 @@ returns-0 pile =
     λ i. (done, record { line = free 0 0 ∷ []; index = restored i; pile = pile })
 
 store_of_0 : (count : ℕ) → 3 ≤ count
-    → Answering 0 count (takes 0 ∷ takes 0 ∷ hands_back_lem 0 0 ∷ takes 0 ∷ []) (granted 0 0 ∷ refused 4 ∷ done ∷ granted 0 0 ∷ [])
+    → Answering 0 count (takes 0 ∷ takes 0 ∷ gives_back 0 0 ∷ takes 0 ∷ []) (granted 0 0 ∷ refused 4 ∷ done ∷ granted 0 0 ∷ [])
 unfolding answer setup zero_free answers on_top without lowest_from
 store_of_0 count h =
     let pile = numbers_from 1 (count - 1) in
     let two = two_spare count h in
     let take_again = answers_take 0 count 0 [] (zero_free pile) _ (grants_0 pile two) in
     let return-it = answers_hand_back 0 count (span_of 0 0) (takes 0 ∷ []) (zero_live pile) _ (returns-0 pile) in
-    let take-another = answers_take 0 count 0 (hands_back_lem 0 0 ∷ takes 0 ∷ []) (zero_live pile) _ (refuses_0 pile two) in
-    let take-one = answers_take 0 count 0 (takes 0 ∷ hands_back_lem 0 0 ∷ takes 0 ∷ []) (zero_free pile) _ (grants_0 pile two) in
+    let take-another = answers_take 0 count 0 (gives_back 0 0 ∷ takes 0 ∷ []) (zero_live pile) _ (refuses_0 pile two) in
+    let take-one = answers_take 0 count 0 (takes 0 ∷ gives_back 0 0 ∷ takes 0 ∷ []) (zero_free pile) _ (grants_0 pile two) in
     take-one ∙ ap (λ rest. granted 0 0 ∷ rest) (take-another ∙ ap (λ rest. refused 4 ∷ rest) (return-it ∙ ap (λ rest. done ∷ rest) take_again))
 
 pub small_stores : SmallStores

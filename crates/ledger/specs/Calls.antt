@@ -40,8 +40,8 @@ takes s = Take record { size = s }
 abbrev pub span_of : (o r : ℕ) → Token
 span_of o r = record { offset = o; number = r }
 
-abbrev pub hands_back_lem : (o r : ℕ) → Call
-hands_back_lem o r = HandBack (span_of o r)
+abbrev pub gives_back : (o r : ℕ) → Call
+gives_back o r = HandBack (span_of o r)
 
 abbrev pub asks_size : (o r : ℕ) → Call
 asks_size o r = Ask (SizeOf (span_of o r))

@@ -3,7 +3,7 @@ use Rattle.std.specs.Prelude.{◌≡◌, ℕ, ◌+◌, ◌*◌, ◌≤◌, ◌<�
 use Rattle.basics.specs.Sum.{tally}
 use Rattle.ledger.specs.Ledger.{Engine, Ledger, free_len, setup, granted, done, reported, refused}
 use Rattle.ledger.specs.Fill.{live_units, fill_of}
-use Rattle.ledger.specs.Calls.{Call, Report, Fill, Ask, takes, hands_back_lem, told, answer, end, log}
+use Rattle.ledger.specs.Calls.{Call, Report, Fill, Ask, takes, gives_back, told, answer, end, log}
 use Rattle.ledger.specs.WellFormed.{WellFormed}
 use Rattle.ledger.specs.History.{Span, out_after}
 use Rattle.ledger.specs.RunToFollow.{Answering}
@@ -29,7 +29,7 @@ pub record FillMeans (E : Engine) (size count : ℕ) : Type 0 where
 pub record FillRows : Type 0 where
   -- along document 01's run: cut and not rounded, and not by a refused take
   pub along_the_run : Answering 100 6
-      (Ask Fill ∷ takes 20 ∷ takes 30 ∷ Ask Fill ∷ takes 49 ∷ Ask Fill ∷ takes 48 ∷ Ask Fill ∷ hands_back_lem 20 1 ∷ Ask Fill ∷ [])
+      (Ask Fill ∷ takes 20 ∷ takes 30 ∷ Ask Fill ∷ takes 49 ∷ Ask Fill ∷ takes 48 ∷ Ask Fill ∷ gives_back 20 1 ∷ Ask Fill ∷ [])
       (reported 0 0 ∷ granted 0 0 ∷ granted 20 1 ∷ reported 50 128 ∷ refused 4 ∷ reported 50 128 ∷ granted 50 2 ∷ reported 98 250 ∷ done
       ∷ reported 68 174 ∷ [])
   -- a full store; one of no size; and one with one spare record, of which the report tells nothing

@@ -5,7 +5,7 @@ use Rattle.basics.specs.Sum.{tally}
 use Rattle.small_float.specs.Class.{down}
 use Rattle.std.proofs.Math.Option.{none, some}
 use Rattle.ledger.specs.Ledger.{Region, live, free, len, Stacks, on_top, numbers_from, Answer, granted, done, refused, Ledger, Spot, grant, by_class}
-use Rattle.ledger.specs.Calls.{Request, Token, Question, SizeOf, Call, Take, HandBack, Reset, Ask, takes, hands_back_lem, span_of, Event, event}
+use Rattle.ledger.specs.Calls.{Request, Token, Question, SizeOf, Call, Take, HandBack, Reset, Ask, takes, gives_back, span_of, Event, event}
 use Rattle.ledger.specs.Spans.{At, FreeIn, Among, Disjoint, Leaves, AllLeave}
 use Rattle.ledger.specs.History.{Span, note, live_one}
 use Rattle.ledger.specs.Stretch.{Stretch}
@@ -34,9 +34,9 @@ pub record Meanings : Type 0 where
   pub disjoint_both_ways : (o n p m : ℕ) → Disjoint o n p m → Disjoint p m o n
   pub apart_by_address : (o n p m : ℕ) → 1 ≤ n → 1 ≤ m → ((a : ℕ) → Inside a o n → ¬ Inside a p m) → Disjoint o n p m
   -- ---- calls that leave a span: all but the hand-back of its offset and record, and a reset
-  pub leaves_exactly : (o r : ℕ) (c : Call) → Leaves (span_of o r) c ↔ ((c ≢ hands_back_lem o r) × (c ≢ Reset))
+  pub leaves_exactly : (o r : ℕ) (c : Call) → Leaves (span_of o r) c ↔ ((c ≢ gives_back o r) × (c ≢ Reset))
   pub all_leave_exactly : (o r : ℕ) (cs : List Call)
-      → AllLeave (span_of o r) cs ↔ ((before after : List Call) (c : Call) → cs ≡ before ++ (c ∷ after) → (c ≢ hands_back_lem o r) × (c ≢ Reset))
+      → AllLeave (span_of o r) cs ↔ ((before after : List Call) (c : Call) → cs ≡ before ++ (c ∷ after) → (c ≢ gives_back o r) × (c ≢ Reset))
   -- ---- a stretch may begin with any grant, the return of the last granted, any refused call and any question, however it is answered
   pub may_grant : (own : List Token) (es : List Event) (asked : Request) (o r : ℕ) → Stretch (span_of o r ∷ own) es
       → Stretch own (event (Take asked) (granted o r) ∷ es)
@@ -78,10 +78,10 @@ pub record Meanings : Type 0 where
       → note (event (takes s) (granted o r)) out ≡ record { offset = o; size = s; number = r } ∷ out
   pub return_strikes_one : (n o r : ℕ) (front back : List Span)
       → ((xs ys : List Span) (x : Span) → front ≡ xs ++ (x ∷ ys) → span_of x.offset x.number ≢ span_of o r)
-      → note (event (hands_back_lem o r) done) (front ++ (record { offset = o; size = n; number = r } ∷ back)) ≡ front ++ back
+      → note (event (gives_back o r) done) (front ++ (record { offset = o; size = n; number = r } ∷ back)) ≡ front ++ back
   pub return_strikes_no_other : (o r : ℕ) (out : List Span)
       → ((xs ys : List Span) (x : Span) → out ≡ xs ++ (x ∷ ys) → span_of x.offset x.number ≢ span_of o r)
-      → note (event (hands_back_lem o r) done) out ≡ out
+      → note (event (gives_back o r) done) out ≡ out
   pub reset_strikes_all : (out : List Span) → note (event Reset done) out ≡ []
   -- ---- what never comes in a ledger in order: where no region is found, or one that is live, nothing is granted and nothing changes
   pub none_granted : (s : ℕ) (l : Ledger Stacks) → grant by_class s l none ≡ (refused 6, l)

@@ -3,7 +3,7 @@
 -- those that speak of every count. Assumes nothing.
 use Rattle.std.specs.Prelude.{◌≡◌, ℕ, ◌≤◌, List, [], ◌∷◌, map}
 use Rattle.ledger.specs.Ledger.{by_class, Stacks, Ledger, Answer, granted, done, length_is, reported, refused, live, free, setup, take, report}
-use Rattle.ledger.specs.Calls.{Report, FullReport, Call, Reset, Ask, takes, hands_back_lem, asks_size, Event, event, answer, end, answers, log}
+use Rattle.ledger.specs.Calls.{Report, FullReport, Call, Reset, Ask, takes, gives_back, asks_size, Event, event, answer, end, answers, log}
 use Rattle.ledger.specs.Figures.{refusal_of, in_a_row, figures_of}
 use Rattle.ledger.specs.Stretch.{Stretch}
 use Rattle.ledger.specs.Claims.{Reached}
@@ -31,13 +31,13 @@ the_calls =
     ∷ takes 30
     ∷ takes 49
     ∷ takes 48
-    ∷ hands_back_lem 20 1
-    ∷ hands_back_lem 20 1
+    ∷ gives_back 20 1
+    ∷ gives_back 20 1
     ∷ takes 0
     ∷ takes 1
-    ∷ hands_back_lem 0 0
-    ∷ hands_back_lem 98 3
-    ∷ hands_back_lem 50 2
+    ∷ gives_back 0 0
+    ∷ gives_back 98 3
+    ∷ gives_back 50 2
     ∷ []
 
 abbrev pub the_answers : List (Answer × (ℕ × ℕ))
@@ -70,31 +70,31 @@ pub record SmallStores : Type 0 where
   pub refuses_17 : (count : ℕ) → 3 ≤ count → Answering 17 count (takes 17 ∷ []) (refused 4 ∷ [])
   -- "A fresh store of 0 with such a count grants one take of 0 and gives 4 to the next, until it is handed back."
   pub store_of_0 : (count : ℕ) → 3 ≤ count
-      → Answering 0 count (takes 0 ∷ takes 0 ∷ hands_back_lem 0 0 ∷ takes 0 ∷ []) (granted 0 0 ∷ refused 4 ∷ done ∷ granted 0 0 ∷ [])
+      → Answering 0 count (takes 0 ∷ takes 0 ∷ gives_back 0 0 ∷ takes 0 ∷ []) (granted 0 0 ∷ refused 4 ∷ done ∷ granted 0 0 ∷ [])
 
 -- ---- "Ways to get it nearly right": what the run by itself does not catch
 pub record NearlyRight : Type 0 where
   -- fit tested before spares: with one spare and no region long enough the answer is 3
   pub spares_first : Answering 100 3 (takes 20 ∷ takes 1000 ∷ []) (granted 0 0 ∷ refused 3 ∷ [])
   -- a freed region put at the tail of its stack: of two of one class the last freed is granted
-  pub last_freed_first : Answering 100 8 (takes 10 ∷ takes 10 ∷ takes 10 ∷ takes 10 ∷ hands_back_lem 0 0 ∷ hands_back_lem 20 2 ∷ takes 10 ∷ [])
+  pub last_freed_first : Answering 100 8 (takes 10 ∷ takes 10 ∷ takes 10 ∷ takes 10 ∷ gives_back 0 0 ∷ gives_back 20 2 ∷ takes 10 ∷ [])
       (granted 0 0 ∷ granted 10 1 ∷ granted 20 2 ∷ granted 30 3 ∷ done ∷ done ∷ granted 20 2 ∷ [])
   -- the pile's order swapped: of two merged away, the one after is taken first
   pub before_goes_first :
       Answering 100 8
-      (takes 10 ∷ takes 10 ∷ takes 10 ∷ takes 10 ∷ hands_back_lem 0 0 ∷ hands_back_lem 20 2 ∷ hands_back_lem 10 1 ∷ takes 5 ∷ takes 5 ∷ takes 5 ∷ [])
+      (takes 10 ∷ takes 10 ∷ takes 10 ∷ takes 10 ∷ gives_back 0 0 ∷ gives_back 20 2 ∷ gives_back 10 1 ∷ takes 5 ∷ takes 5 ∷ takes 5 ∷ [])
       (granted 0 0 ∷ granted 10 1 ∷ granted 20 2 ∷ granted 30 3 ∷ done ∷ done ∷ done ∷ granted 0 1 ∷ granted 5 2 ∷ granted 10 0 ∷ [])
   -- the merged region given the earlier record
-  pub keeps_its_record : Answering 100 6 (takes 10 ∷ takes 10 ∷ takes 10 ∷ hands_back_lem 0 0 ∷ hands_back_lem 10 1 ∷ takes 20 ∷ [])
+  pub keeps_its_record : Answering 100 6 (takes 10 ∷ takes 10 ∷ takes 10 ∷ gives_back 0 0 ∷ gives_back 10 1 ∷ takes 20 ∷ [])
       (granted 0 0 ∷ granted 10 1 ∷ granted 20 2 ∷ done ∷ done ∷ granted 0 1 ∷ [])
   -- the last spare spent: count 3 has one live span at most
-  pub last_spare_kept : Answering 100 3 (takes 10 ∷ takes 10 ∷ hands_back_lem 0 0 ∷ takes 100 ∷ takes 96 ∷ [])
+  pub last_spare_kept : Answering 100 3 (takes 10 ∷ takes 10 ∷ gives_back 0 0 ∷ takes 100 ∷ takes 96 ∷ [])
       (granted 0 0 ∷ refused 3 ∷ done ∷ refused 4 ∷ granted 0 0 ∷ [])
   -- the search from the rounded-down class: a region of 16 would serve 17
   pub rounded_up_lem : Answering 32 6 (takes 16 ∷ takes 17 ∷ takes 16 ∷ []) (granted 0 0 ∷ refused 4 ∷ granted 16 1 ∷ [])
   -- a reset begins anew, record numbers too
   pub reset_anew : Answering 100 6
-      (takes 20 ∷ takes 30 ∷ hands_back_lem 0 0 ∷ hands_back_lem 20 1 ∷ Reset ∷ takes 50 ∷ asks_size 0 0 ∷ asks_size 20 1 ∷ [])
+      (takes 20 ∷ takes 30 ∷ gives_back 0 0 ∷ gives_back 20 1 ∷ Reset ∷ takes 50 ∷ asks_size 0 0 ∷ asks_size 20 1 ∷ [])
       (granted 0 0 ∷ granted 20 1 ∷ done ∷ done ∷ done ∷ granted 0 0 ∷ length_is 50 ∷ refused 5 ∷ [])
 
 -- ---- "Sizes with no class say so"
@@ -110,31 +110,31 @@ pub record ZeroLength : Type 0 where
   -- "two may share an offset"
   pub one_offset : Answering 100 6 (takes 0 ∷ takes 0 ∷ []) (granted 0 0 ∷ granted 0 1 ∷ [])
   -- "a live one between two free regions keeps them from merging"
-  pub kept_apart : (end (answer by_class 100 6) (takes 20 ∷ takes 0 ∷ hands_back_lem 0 0 ∷ []) (setup by_class 100 6)).line
+  pub kept_apart : (end (answer by_class 100 6) (takes 20 ∷ takes 0 ∷ gives_back 0 0 ∷ []) (setup by_class 100 6)).line
       ≡ free 20 0 ∷ live 0 1 ∷ free 80 2 ∷ []
 
 -- ---- "Handle and offset must agree"
 pub record PairsAgree : Type 0 where
   -- "handed back record 12 with another span's address": 8, and nothing changes, so that the span's own offset still serves
   pub another's_offset : Answering 100 6
-      (takes 20 ∷ takes 30 ∷ hands_back_lem 0 1 ∷ hands_back_lem 20 0 ∷ asks_size 0 1
-      ∷ asks_size 20 1 ∷ hands_back_lem 20 1 ∷ hands_back_lem 0 0 ∷ takes 96 ∷ [])
+      (takes 20 ∷ takes 30 ∷ gives_back 0 1 ∷ gives_back 20 0 ∷ asks_size 0 1
+      ∷ asks_size 20 1 ∷ gives_back 20 1 ∷ gives_back 0 0 ∷ takes 96 ∷ [])
       (granted 0 0 ∷ granted 20 1 ∷ refused 8 ∷ refused 8 ∷ refused 8 ∷ length_is 30 ∷ done ∷ done ∷ granted 0 0 ∷ [])
   -- "it comes after 5": a record that is not live, whatever the offset, its own last one too
   pub after_5 : Answering 100 6
-      (takes 20 ∷ hands_back_lem 20 1 ∷ hands_back_lem 7 1 ∷ hands_back_lem 0 9 ∷ asks_size 7 1 ∷ hands_back_lem 0 0 ∷ hands_back_lem 0 0 ∷ hands_back_lem 7 0 ∷ [])
+      (takes 20 ∷ gives_back 20 1 ∷ gives_back 7 1 ∷ gives_back 0 9 ∷ asks_size 7 1 ∷ gives_back 0 0 ∷ gives_back 0 0 ∷ gives_back 7 0 ∷ [])
       (granted 0 0 ∷ refused 5 ∷ refused 5 ∷ refused 5 ∷ refused 5 ∷ done ∷ refused 5 ∷ refused 5 ∷ [])
   -- it is the offset that must agree: not the length, not the end, not the record's number
   pub the_offset_alone : Answering 100 6
-      (takes 20 ∷ takes 30 ∷ hands_back_lem 30 1 ∷ hands_back_lem 50 1 ∷ hands_back_lem 1 1
-      ∷ asks_size 30 1 ∷ asks_size 50 1 ∷ asks_size 1 1 ∷ hands_back_lem 20 1 ∷ [])
+      (takes 20 ∷ takes 30 ∷ gives_back 30 1 ∷ gives_back 50 1 ∷ gives_back 1 1
+      ∷ asks_size 30 1 ∷ asks_size 50 1 ∷ asks_size 1 1 ∷ gives_back 20 1 ∷ [])
       (granted 0 0 ∷ granted 20 1 ∷ refused 8 ∷ refused 8 ∷ refused 8 ∷ refused 8 ∷ refused 8 ∷ refused 8 ∷ done ∷ [])
   -- of two spans at one offset the record tells which
-  pub one_offset_twice : Answering 100 6 (takes 0 ∷ takes 20 ∷ hands_back_lem 0 0 ∷ asks_size 0 1 ∷ hands_back_lem 0 0 ∷ hands_back_lem 0 1 ∷ [])
+  pub one_offset_twice : Answering 100 6 (takes 0 ∷ takes 20 ∷ gives_back 0 0 ∷ asks_size 0 1 ∷ gives_back 0 0 ∷ gives_back 0 1 ∷ [])
       (granted 0 0 ∷ granted 0 1 ∷ done ∷ length_is 20 ∷ refused 5 ∷ done ∷ [])
   -- "A stale pair that matches a later grant is still accepted": who handed the first span back already asks for the second one's length, and hands
   -- it back
-  pub stale_pair : Answering 100 6 (takes 20 ∷ hands_back_lem 0 0 ∷ takes 30 ∷ asks_size 0 0 ∷ hands_back_lem 0 0 ∷ [])
+  pub stale_pair : Answering 100 6 (takes 20 ∷ gives_back 0 0 ∷ takes 30 ∷ asks_size 0 0 ∷ gives_back 0 0 ∷ [])
       (granted 0 0 ∷ done ∷ granted 0 0 ∷ length_is 30 ∷ done ∷ [])
 
 -- ---- numbers and figures, of each kind of call, answered and refused
@@ -144,7 +144,7 @@ number_and_figures (event c a) = (refusal_of a, figures_of c a)
 pub record FigureRows : Type 0 where
   pub in_a_run : map number_and_figures (log (answer by_class 100 6)
       (takes 20 ∷ takes 30 ∷ takes 49 ∷ asks_size 20 1 ∷ asks_size 0 9 ∷ asks_size 0 1 ∷ Ask Report
-      ∷ hands_back_lem 0 1 ∷ hands_back_lem 20 1 ∷ hands_back_lem 20 1 ∷ Reset ∷ [])
+      ∷ gives_back 0 1 ∷ gives_back 20 1 ∷ gives_back 20 1 ∷ Reset ∷ [])
       (setup by_class 100 6))
       ≡ (0, 0 ∷ 0 ∷ []) ∷ (0, 20 ∷ 1 ∷ []) ∷ (4, 0 ∷ 0 ∷ []) ∷ (0, 30 ∷ []) ∷ (5, 0 ∷ []) ∷ (8, 0 ∷ []) ∷ (0, 50 ∷ 48 ∷ [])
       ∷ (8, []) ∷ (0, []) ∷ (5, []) ∷ (0, []) ∷ []
@@ -155,22 +155,22 @@ pub record FigureRows : Type 0 where
 pub record StretchExamples : Type 0 where
   -- a stretch, with a refused take and a report in it
   pub a_stretch : Stretch [] (log (answer by_class 100 6)
-      (takes 20 ∷ takes 30 ∷ takes 99 ∷ hands_back_lem 20 1 ∷ Ask Report ∷ hands_back_lem 0 0 ∷ []) (setup by_class 100 6))
+      (takes 20 ∷ takes 30 ∷ takes 99 ∷ gives_back 20 1 ∷ Ask Report ∷ gives_back 0 0 ∷ []) (setup by_class 100 6))
   -- a stretch with a take of 0 in it, each call that can be refused, with each number, and each question
   pub all_kinds : Stretch [] (log (answer by_class 100 4)
-      (takes 0 ∷ asks_size 0 0 ∷ hands_back_lem 0 0
-      ∷ takes 20 ∷ takes 99 ∷ takes 30 ∷ takes 1 ∷ hands_back_lem 50 2 ∷ hands_back_lem 0 1 ∷ asks_size 0 9 ∷ asks_size 0 1
-      ∷ Ask Report ∷ Ask FullReport ∷ hands_back_lem 20 1 ∷ hands_back_lem 0 0 ∷ [])
+      (takes 0 ∷ asks_size 0 0 ∷ gives_back 0 0
+      ∷ takes 20 ∷ takes 99 ∷ takes 30 ∷ takes 1 ∷ gives_back 50 2 ∷ gives_back 0 1 ∷ asks_size 0 9 ∷ asks_size 0 1
+      ∷ Ask Report ∷ Ask FullReport ∷ gives_back 20 1 ∷ gives_back 0 0 ∷ [])
       (setup by_class 100 4))
   -- and its answers
   pub all_kinds_answers : Answering 100 4
-      (takes 0 ∷ asks_size 0 0 ∷ hands_back_lem 0 0
-      ∷ takes 20 ∷ takes 99 ∷ takes 30 ∷ takes 1 ∷ hands_back_lem 50 2 ∷ hands_back_lem 0 1 ∷ asks_size 0 9 ∷ asks_size 0 1 ∷ Ask Report ∷ [])
+      (takes 0 ∷ asks_size 0 0 ∷ gives_back 0 0
+      ∷ takes 20 ∷ takes 99 ∷ takes 30 ∷ takes 1 ∷ gives_back 50 2 ∷ gives_back 0 1 ∷ asks_size 0 9 ∷ asks_size 0 1 ∷ Ask Report ∷ [])
       (granted 0 0 ∷ length_is 0 ∷ done
       ∷ granted 0 0 ∷ refused 4 ∷ granted 20 1 ∷ refused 3 ∷ refused 5 ∷ refused 8 ∷ refused 5 ∷ refused 8 ∷ reported 0 0 ∷ [])
   -- two spans handed back last granted first leave the ledger as it was; the later take has record 0
-  pub in_order : Answering 100 6 (takes 20 ∷ takes 30 ∷ hands_back_lem 20 1 ∷ hands_back_lem 0 0 ∷ takes 40 ∷ [])
+  pub in_order : Answering 100 6 (takes 20 ∷ takes 30 ∷ gives_back 20 1 ∷ gives_back 0 0 ∷ takes 40 ∷ [])
       (granted 0 0 ∷ granted 20 1 ∷ done ∷ done ∷ granted 0 0 ∷ [])
   -- handed back first granted first they do not: the later take has record 1
-  pub out_of_order : Answering 100 6 (takes 20 ∷ takes 30 ∷ hands_back_lem 0 0 ∷ hands_back_lem 20 1 ∷ takes 40 ∷ [])
+  pub out_of_order : Answering 100 6 (takes 20 ∷ takes 30 ∷ gives_back 0 0 ∷ gives_back 20 1 ∷ takes 40 ∷ [])
       (granted 0 0 ∷ granted 20 1 ∷ done ∷ done ∷ granted 0 1 ∷ [])

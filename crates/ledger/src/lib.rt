@@ -1,1 +1,2 @@
 // No code: this crate says what the allocator means. specs/Ledger.antt is where to start.
+#![tactic(auto)]

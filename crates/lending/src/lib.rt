@@ -3,6 +3,8 @@
 // Where a program calls from several places, so that the compiler leaves the calls out of line, this is the quickest way in: scalars that go in and out by
 // value are written word by word and read back many at once, which the processor has to wait for (docs/SPEED.md). Each call makes the one in place of the
 // same name, which does the work. `Totals::in_array` makes the array of what a setup gives, `Totals::of_array` reads it for the questions and the audit.
+#![tactic(auto)]
+
 ghost use Rattle.ledger.specs.Calls.{Take, HandBack};
 ghost use Rattle.tables.specs.Calls.{edition32};
 ghost use Rattle.tables.specs.Promise.{Promise};

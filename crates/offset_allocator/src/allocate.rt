@@ -10,7 +10,7 @@ use crate::head::Head;
 use answers::TakeAnswer;
 use small_float::Size;
 
-#[derive(Drop)]
+#[derive(Clone, Copy)]
 pub struct Allocated {
     pub answer: TakeAnswer,
     pub head: Head,

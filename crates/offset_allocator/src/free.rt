@@ -9,7 +9,7 @@ ghost use Rattle.offset_allocator.specs.HeadWords.{head_words};
 use crate::head::Head;
 use answers::{Allocation, BackAnswer};
 
-#[derive(Drop)]
+#[derive(Clone, Copy)]
 pub struct Freed {
     pub answer: BackAnswer,
     pub head: Head,

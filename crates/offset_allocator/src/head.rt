@@ -1,7 +1,7 @@
 // The head record: all that an allocator keeps besides its two lent tables.
 use records::totals::Totals;
 
-#[derive(Drop)]
+#[derive(Clone, Copy)]
 pub struct Head {
     pub totals: Totals,
     pub bin_indices: [u32; Head::NUM_LEAF_BINS],

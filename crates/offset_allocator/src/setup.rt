@@ -10,7 +10,7 @@ use crate::head::Head;
 use answers::StartAnswer;
 use small_float::Size;
 
-#[derive(Drop)]
+#[derive(Clone, Copy)]
 pub struct SetUp {
     pub answer: StartAnswer,
     pub head: Head,

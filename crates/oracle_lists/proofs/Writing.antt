@@ -31,7 +31,7 @@ more_written {text} {ns} p [] h = subst (λ (l : List ℕ). RowWritten l) (sym (
 more_written {text} {ns} p (m ∷ ms) h =
     let w = number_written m in
     let next = number_more p w.decimal (h 0 (omega arith)) in
-    subst (λ (l : List ℕ). RowWritten l) (append_assoc ns (m ∷ []) ms) (more_written next ms (λ i inside. h (suc i) (omega arith)))
+    subst (λ (l : List ℕ). RowWritten l) (append_assoc ns (m ∷ []) ms) (more_written {text = text ++ (32 ∷ (number_written m).text)} {ns = ns ++ (m ∷ [])} next ms (λ i inside. h (suc i) (omega arith)))
 
 pub row_written : (ns : List ℕ) → ((i : ℕ) → i < length ns → get_or ns i 0 < 2 ^ 32) → RowWritten ns
 row_written ns h = more_written none ns h
@@ -59,7 +59,7 @@ digits_after {text} {n} p (b ∷ bs) h =
     let k = b - 48 in
     let one_more = digit_more {k = k} p (omega (arith, digit.0, digit.1)) in
     let it = subst (λ (c : ℕ). Decimal (text ++ (c ∷ [])) (10 * n + k)) (is_digit b digit) one_more in
-    let all = digits_after it bs (λ i inside. h (suc i) (omega arith)) in
+    let all = digits_after {text = text ++ (b ∷ [])} {n = 10 * n + k} it bs (λ i inside. h (suc i) (omega arith)) in
     (all.0, subst (λ (l : List ℕ). Decimal l all.0) (append_assoc text (b ∷ []) bs) all.1)
 
 pub any_digits : (text : List ℕ) → 1 ≤ length text → AllDigits text → (n : ℕ) × Decimal text n

@@ -94,7 +94,7 @@ pub fn judge_row(row: Reader) -> Verdict
 }
 
 // The list read so far: the row that is being read, and the tally of those before it.
-#[derive(Drop)]
+#[derive(Clone, Copy)]
 pub struct Comparison {
     pub reader: Reader,
     pub tally: Tally,

@@ -4,7 +4,7 @@ ghost use Rattle.oracle_lists.specs.Rows.{fresh, no_list, begun, ended, with_fie
 
 // Where the reader stands: before the first row; after a row's letter or a digit; after a space, so that a digit must follow; at the end of
 // a row. Or the bytes are no list, and stay so.
-#[derive(Drop)]
+#[derive(Clone, Copy)]
 pub enum State {
     Between,
     Within,
@@ -14,7 +14,7 @@ pub enum State {
 }
 
 // The row read so far. Its numbers come in at d and move up, so that the last number of a whole row is d, the one before it c.
-#[derive(Drop)]
+#[derive(Clone, Copy)]
 pub struct Reader {
     pub state: State,
     pub letter: u8,

@@ -3,7 +3,7 @@ ghost use Rattle.std.specs.Prelude.{◌≡◌};
 ghost use Rattle.oracle_lists.specs.Tally.{one_more, no_rows, counted};
 
 // The row agrees with the port, shows a difference that docs/DIFFERENCES.md lists, or differs otherwise.
-#[derive(Drop)]
+#[derive(Clone, Copy)]
 pub enum Verdict {
     Agrees,
     Listed,
@@ -12,7 +12,7 @@ pub enum Verdict {
 
 // The rows, counted by verdict, and the number of the first one that differs, from 1 on; 0 if none does.
 // A counter that has reached 2^64 - 1 stays there.
-#[derive(Drop)]
+#[derive(Clone, Copy)]
 pub struct Tally {
     pub rows: u64,
     pub agreed: u64,

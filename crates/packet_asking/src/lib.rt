@@ -1,5 +1,7 @@
 // What is asked of packets and of their stores, in place: a packet's bytes, its length; a store's report, its audit. Nothing is written, but for the
 // audit's scratch.
+#![tactic(auto)]
+
 ghost use Rattle.std.specs.Prelude.{◌≡◌};
 ghost use Rattle.answers.specs.Asked.{token_of};
 ghost use Rattle.answers.specs.Answers.{size_says, audit_says};

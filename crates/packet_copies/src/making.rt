@@ -7,7 +7,7 @@ use crate::{filling, heads, questions, setting_up};
 use packets::{Packet, Store};
 use small_float::Size;
 
-#[derive(Drop)]
+#[derive(Clone, Copy)]
 pub enum Asked {
     // a store, its size and its count of records
     SetUp(Store, u32, u32),

@@ -5,7 +5,7 @@ use crate::{sides, told};
 use packets::{Packet, Store};
 use records::totals::Totals;
 
-#[derive(Drop)]
+#[derive(Clone, Copy)]
 pub enum Question {
     Read(Packet),
     Length(Packet),

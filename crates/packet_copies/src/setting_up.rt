@@ -58,7 +58,7 @@ pub fn set_up(store: Store, size: Size, max_allocs: u32, before: Sides) -> Made 
 }
 
 // What is asked of both stores: a size, and a count of records.
-#[derive(Drop)]
+#[derive(Clone, Copy)]
 pub struct Wanted {
     pub size: u32,
     pub max_allocs: u32,

@@ -6,7 +6,7 @@ use packets::Store;
 use records::totals::Totals;
 
 // A head with its tables, for 16 records. The nodes have words for two more, so that a count of 17 or 18 finds the pile alone too short.
-#[derive(Drop)]
+#[derive(Clone, Copy)]
 pub struct Words {
     pub totals: Totals,
     pub bin_indices: [u32; 256],
@@ -16,14 +16,14 @@ pub struct Words {
 }
 
 // One store: the words of its allocator, its bytes, and how many of them are lent to a call.
-#[derive(Drop)]
+#[derive(Clone, Copy)]
 pub struct Side {
     pub words: Words,
     pub bytes: [u8; 64],
     pub lent: u32,
 }
 
-#[derive(Drop)]
+#[derive(Clone, Copy)]
 pub struct Sides {
     pub on_chip: Side,
     pub external: Side,

@@ -3,7 +3,7 @@ use crate::sides::Sides;
 use answers::StorageReport;
 use packets::{Packet, PacketAnswer, PacketGrant, PacketLength, PacketReport};
 
-#[derive(Drop)]
+#[derive(Clone, Copy)]
 pub enum Told {
     Done,
     Granted(Packet),
@@ -17,7 +17,7 @@ pub enum Told {
 }
 
 // The answer, both stores after it, and what a read showed at the front of as many bytes as a store has.
-#[derive(Drop)]
+#[derive(Clone, Copy)]
 pub struct Made {
     pub told: Told,
     pub after: Sides,

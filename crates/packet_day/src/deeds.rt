@@ -3,7 +3,7 @@ use crate::nodes;
 use crate::told::Told;
 use packets::Packet;
 
-#[derive(Drop)]
+#[derive(Clone, Copy)]
 pub enum Deed {
     // A node that never handed a packet back has none to read.
     Nothing,
@@ -18,7 +18,7 @@ pub enum Deed {
 }
 
 // The node and what it does: how many bytes it takes or fills in, and the first of these; and what is told of the day after the draws.
-#[derive(Drop)]
+#[derive(Clone, Copy)]
 pub struct Planned {
     pub told: Told,
     pub at: u32,

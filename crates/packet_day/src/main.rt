@@ -1,6 +1,8 @@
 // A day of a base station on the packet layer: 800 nodes take, fill, read and hand back packets of 1 to 200 bytes, in a store of 4 KiB on the chip and
 // one of 64 KiB outside it. Each answer and each byte read is held to a plain model, and a digest hangs on them all. What must be printed was made by
 // the oracle's own packet layer (oracle/README.md).
+#![tactic(auto)]
+
 mod deeds;
 mod nodes;
 mod outcomes;

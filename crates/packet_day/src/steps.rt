@@ -3,7 +3,7 @@ use crate::stores::Heads;
 use crate::told::Told;
 use crate::{deeds, outcomes, reads, stores};
 
-#[derive(Drop)]
+#[derive(Clone, Copy)]
 pub struct Day {
     pub told: Told,
     pub heads: Heads,

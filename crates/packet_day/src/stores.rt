@@ -6,14 +6,14 @@ use packet_heads::{HeadsReturned, HeadsTaken};
 use packets::{Packet, PacketGrant, PacketLength};
 use small_float::Size;
 
-#[derive(Drop)]
+#[derive(Clone, Copy)]
 pub struct Heads {
     pub on_chip: Head,
     pub external: Head,
 }
 
 // The number of the answer, 0 where it is no refusal; the packet that was granted, or else the one asked about; and both heads.
-#[derive(Drop)]
+#[derive(Clone, Copy)]
 pub struct Made {
     pub number: u32,
     pub packet: Packet,

@@ -1,5 +1,5 @@
 // What is told of the day: the seed of its draws, the digest of what came of its calls, and how often each thing came.
-use libc::STDOUT_FILENO;
+use streams::STDOUT_FILENO;
 
 // The places of the counts. The first two are the stores' numbers.
 pub const ON_CHIP: u32 = 0;
@@ -28,7 +28,7 @@ pub const WRONG_NAME: u32 = 11;
 
 pub const DIFFERING: u32 = 12;
 
-#[derive(Drop)]
+#[derive(Clone, Copy)]
 pub struct Told {
     pub seed: u32,
     pub digest: u32,

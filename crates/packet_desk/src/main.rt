@@ -1,5 +1,7 @@
 // README's worked example: a packet taken, filled, read and handed back, in an on-chip store of 16 bytes and an external one of 64. All bytes are 7 at
 // first, which stands for an old reading that must never show.
+#![tactic(auto)]
+
 mod printing;
 
 use answers::{Allocation, Handle};
@@ -12,7 +14,7 @@ use packet_copies::{making, sides};
 use packets::{Packet, Store};
 
 // What a call answered, and both stores after it.
-#[derive(Drop)]
+#[derive(Clone, Copy)]
 struct Answered {
     told: Told,
     sides: Sides,

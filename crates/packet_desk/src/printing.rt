@@ -1,8 +1,8 @@
 // A call and its answer, written to standard output.
-use libc::STDOUT_FILENO;
 use packet_copies::sides;
 use packet_copies::told::Told;
 use packets::{Packet, Store};
+use streams::STDOUT_FILENO;
 
 fn print(text: &[u8]) {
     io::write_all(STDOUT_FILENO, text);

@@ -1,4 +1,6 @@
 // Fill a packet, in place: just its own bytes inside its store are lent on, to be written.
+#![tactic(auto)]
+
 ghost use Rattle.answers.specs.Asked.{token_of};
 ghost use Rattle.tables.specs.Calls.{edition32};
 ghost use Rattle.packets.specs.Stores.{two, store_of};

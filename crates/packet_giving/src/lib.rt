@@ -1,4 +1,6 @@
 // Hand a packet back, in place: its store says whose it is, and no byte changes.
+#![tactic(auto)]
+
 ghost use Rattle.std.specs.Prelude.{◌≡◌};
 ghost use Rattle.answers.specs.Asked.{token_of};
 ghost use Rattle.answers.specs.Answers.{back_says};
@@ -13,7 +15,7 @@ use packets::{Packet, PacketAnswer, PacketRefusal, Store};
 use records::totals::Totals;
 
 // What a hand-back answered, and the scalars of both heads after it.
-#[derive(Drop)]
+#[derive(Clone, Copy)]
 pub struct PacketReturned {
     pub answer: PacketAnswer,
     pub on_chip: Totals,

@@ -1,5 +1,7 @@
 // The packet calls that change a head, with both heads by value: they go in and come out. Fill, read and the questions change none; they are called in
 // place (`packet_filling`, `packet_asking`), lent the parts of both heads to be read.
+#![tactic(auto)]
+
 ghost use Rattle.std.specs.Prelude.{List, ℕ, replicate};
 ghost use Rattle.tables.specs.Calls.{edition32};
 ghost use Rattle.answers.specs.Asked.{request_of, token_of};
@@ -17,7 +19,7 @@ use records::totals::Totals;
 use small_float::Size;
 
 // What a setup of one store answered, and its head: one of zeros where it is refused.
-#[derive(Drop)]
+#[derive(Clone, Copy)]
 pub struct HeadStarted {
     pub answer: PacketAnswer,
     pub head: Head,
@@ -64,7 +66,7 @@ pub fn set_up(
 }
 
 // What a take answered, and both heads after it.
-#[derive(Drop)]
+#[derive(Clone, Copy)]
 pub struct HeadsTaken {
     pub answer: PacketGrant,
     pub on_chip: Head,
@@ -130,7 +132,7 @@ pub fn take(
 }
 
 // What a hand-back answered, and both heads after it.
-#[derive(Drop)]
+#[derive(Clone, Copy)]
 pub struct HeadsReturned {
     pub answer: PacketAnswer,
     pub on_chip: Head,

@@ -1,4 +1,6 @@
 // Setup of one store, whichever of the two, or of both, in place. No byte changes: a packet's are marked when it is taken.
+#![tactic(auto)]
+
 ghost use Rattle.std.specs.Prelude.{◌≡◌, List, ℕ};
 ghost use Rattle.answers.specs.Answers.{start_says};
 ghost use Rattle.tables.specs.Calls.{edition32};
@@ -18,7 +20,7 @@ use records::totals::Totals;
 use small_float::Size;
 
 // What a setup of one store answered, and the scalars of its head after it.
-#[derive(Drop)]
+#[derive(Clone, Copy)]
 pub struct PacketStarted {
     pub answer: PacketAnswer,
     pub totals: Totals,
@@ -78,7 +80,7 @@ pub fn set_up(
 }
 
 // What a setup of both answered, and the scalars of both heads after it.
-#[derive(Drop)]
+#[derive(Clone, Copy)]
 pub struct BothStarted {
     pub answer: PacketAnswer,
     pub on_chip: Totals,

@@ -1,5 +1,7 @@
 // What becomes of one store of the two, in place: its allocator's call, and its bytes. The layer above has tested that the bytes are as many as the
 // allocator's size, and these functions require it.
+#![tactic(auto)]
+
 ghost use Rattle.std.specs.Prelude.{◌≡◌, ◌||◌, List, ℕ, ◌+◌, ◌^◌, ◌≤◌, ◌<◌, ltb, length};
 ghost use Rattle.ledger.specs.Ledger.{length_is, granted};
 ghost use Rattle.tables.specs.Calls.{edition32};

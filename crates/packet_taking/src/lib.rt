@@ -1,4 +1,6 @@
 // Take a packet, in place: on-chip first and, on 3 or 4 only, external.
+#![tactic(auto)]
+
 ghost use Rattle.std.specs.Prelude.{◌≡◌, ◌≤◌, length};
 ghost use Rattle.answers.specs.Asked.{request_of};
 ghost use Rattle.answers.specs.Refusals.{number_of};
@@ -16,7 +18,7 @@ use records::totals::Totals;
 use small_float::Size;
 
 // What a take answered, and the scalars of both heads after it.
-#[derive(Drop)]
+#[derive(Clone, Copy)]
 pub struct PacketTaken {
     pub answer: PacketGrant,
     pub on_chip: Totals,
@@ -24,7 +26,7 @@ pub struct PacketTaken {
 }
 
 // The layer's answer, and the scalars of the external store's head, whether it was tried or not.
-#[derive(Drop)]
+#[derive(Clone, Copy)]
 struct Tried {
     answer: PacketGrant,
     external: Totals,

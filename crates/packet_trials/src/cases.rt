@@ -27,7 +27,7 @@ use packets::{Packet, Store};
 const MOST: u32 = 2000;
 
 // What a row asks for: a call, or that something else becomes of the stores.
-#[derive(Drop)]
+#[derive(Clone, Copy)]
 enum Row {
     Call(Asked),
     Anew,
@@ -37,7 +37,7 @@ enum Row {
 }
 
 // Both stores, and how many bytes wait to be printed.
-#[derive(Drop)]
+#[derive(Clone, Copy)]
 struct Cases {
     sides: Sides,
     waiting: usize,

@@ -17,7 +17,7 @@ use Rattle.packets.specs.Runs.{Auditing}
 use Rattle.packets.specs.Shelf.{contents, shelf, filled_since}
 use Rattle.packets.specs.Stretch as stretch
 use Rattle.packets.specs.Stretch.{PacketStretch, all_told}
-use Rattle.packets.specs.Rows.{takes, hands_back_lem, fills, reads, asks_length, asks_report}
+use Rattle.packets.specs.Rows.{takes, gives_back, fills, reads, asks_length, asks_report}
 use Rattle.packets.specs.Rows.{answers_of, left, history, fresh, with_packets, RowsMean, PacketRows}
 
 -- five lists are the same if they are in one list
@@ -39,7 +39,7 @@ rows_mean = record {
 a_stretch : PacketStretch [] []
     (history (takes 1 ∷ takes 9 ∷ takes 2 ∷ takes 99 ∷ fills OnChip 1 1 (1 ∷ []) ∷ fills OnChip 1 1 (1 ∷ 2 ∷ 3 ∷ []) ∷ reads External 0 0
     ∷ asks_length OnChip 0 0 ∷ asks_report External ∷ Auditing OnChip 4
-    ∷ hands_back_lem OnChip 1 1 ∷ hands_back_lem OnChip 0 0 ∷ hands_back_lem External 0 0 ∷ hands_back_lem External 0 0 ∷ []) fresh)
+    ∷ gives_back OnChip 1 1 ∷ gives_back OnChip 0 0 ∷ gives_back External 0 0 ∷ gives_back External 0 0 ∷ []) fresh)
 unfolding history left fresh packet_words set_up_both_words audit_in setup_words setup_gate answer_words audit_words rounded_up value word
     put put_link insert insert_at insert_nodes join_nodes unlink unlink_at push_pile pop_pile count_leading_zeros count_trailing_zeros
 a_stretch =

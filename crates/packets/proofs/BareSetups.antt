@@ -86,4 +86,4 @@ module _ (E : Edition) where
       bare_external (inr e) = none_bare u.external t.external (ap (λ (x : Two). x.external) (p.refused_none e.0 e.1))
 
       by_answer : (a ≡ plain done) ⊎ ((n : ℕ) × (a ≡ plain (refused n))) → AllBare E u
-      by_answer e = record { each = λ s. elim s [ OnChip ↦ bare_on_chip e | External ↦ bare_external e ] }
+      by_answer e = record { each = λ s. elim s as (λ (s : Store). Bare E (at s u)) [ OnChip ↦ bare_on_chip e | External ↦ bare_external e ] }

@@ -109,5 +109,5 @@ module _ (E : Edition) where
   length_inside s span t n e =
       let so = past t (plain (length_in E span (at s t)), t) (length_is n) (λ f. clash (cc)) e in
       let both = both_long (length t.on_chip.bytes) t.on_chip.words.size (length t.external.bytes) t.external.words.size so.0 in
-      let long : (named : Store) → (at named t).words.size ≤ length (at named t).bytes = λ named. elim named [ OnChip ↦ both.0 | External ↦ both.1 ] in
+      let long : (named : Store) → (at named t).words.size ≤ length (at named t).bytes = λ named. elim named as (λ (named : Store). (at named t).words.size ≤ length (at named t).bytes) [ OnChip ↦ both.0 | External ↦ both.1 ] in
       omega (arith, length_in_size E span (at s t) n (plain_of so.1), long s)

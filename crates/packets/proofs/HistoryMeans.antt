@@ -91,11 +91,11 @@ module _ (span : Token) where
     where
       go : Compared h.span span → Lacks span held ⊎ FirstOf span held → Lacks span (h ∷ held) ⊎ FirstOf span (h ∷ held)
       go (one_span e f) rest =
-          inr record { front = []; packet_held_lem = h; back = held; list_is = refl; its_span = e; none_before = tt }
+          inr record { front = []; held_packet = h; back = held; list_is = refl; its_span = e; none_before = tt }
       go (two_spans e f) (inl none_there) = inl (e, none_there)
       go (two_spans e f) (inr first) = inr record {
         front = h ∷ first.front;
-        packet_held_lem = first.packet_held_lem;
+        held_packet = first.held_packet;
         back = first.back;
         list_is = ap (λ (hs : List Held). h ∷ hs) first.list_is;
         its_span = first.its_span;
@@ -128,10 +128,10 @@ module _ (span : Token) where
   ]
 
   first_is : (held : List Held) (f : FirstOf span held)
-      → (contents span held ≡ some f.packet_held_lem.bytes) × (strike span held ≡ f.front ++ f.back) × Lacks span f.front
+      → (contents span held ≡ some f.held_packet.bytes) × (strike span held ≡ f.front ++ f.back) × Lacks span f.front
   first_is held f = (
-    ap (contents span) f.list_is ∙ contents_first f.front f.back f.packet_held_lem f.none_before f.its_span,
-    ap (strike span) f.list_is ∙ strike_first f.front f.back f.packet_held_lem f.none_before f.its_span,
+    ap (contents span) f.list_is ∙ contents_first f.front f.back f.held_packet f.none_before f.its_span,
+    ap (strike span) f.list_is ∙ strike_first f.front f.back f.held_packet f.none_before f.its_span,
     f.none_before,
   )
 

@@ -33,7 +33,7 @@ after_all : {x : Region} {o p : ℕ} {rest : List Region} (front : List Region) 
 after_all {x} {o} {p} {rest} [] a e = let unmoved : p ≡ o = omega arith in subst (λ i. At x i rest) unmoved a
 after_all {x} {o} {p} {rest} (y ∷ front) a e =
     let sum : o ≡ len y + (tally len front + p) = omega arith in
-    subst (λ i. At x i (y ∷ (front ++ rest))) (sym sum) (later {y = y} (after_all front a refl))
+    subst (λ i. At x i (y ∷ (front ++ rest))) (sym sum) (later {y = y} (after_all {o = tally len front + p} front a refl))
 
 -- a live region behind what is left of a free one
 past : {n r p left : ℕ} {pile spare : List ℕ} {remainder back : List Region} → Remainder left pile remainder spare

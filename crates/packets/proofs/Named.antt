@@ -55,6 +55,7 @@ module _ (E : Edition) where
   refused_9 (Fill s span new) t says e = promised E (Fill s span new) t t (plain (refused 9)) (short_nine t _ e)
   refused_9 (LengthOf s span) t says e = promised E (LengthOf s span) t t (plain (refused 9)) (short_nine t _ e)
   refused_9 (ReportOf s) t says e = promised E (ReportOf s) t t (plain (refused 9)) (short_nine t _ e)
+  refused_9 (Read _ _) t says e = elim says [ ]
 
   pub shows_none : (s : Store) (span : ledger.Token) (t : Two) → too_short t ≡ true → PacketPromise E (Read s span) t t (shows [])
   unfolding packet_words

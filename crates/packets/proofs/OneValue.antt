@@ -18,7 +18,7 @@ use Rattle.packets.specs.declared.PacketAnswer.TheVariants as plainly
 use Rattle.packets.specs.declared.PacketGrant.{PacketGrant}
 use Rattle.packets.specs.declared.PacketGrant.TheVariants as grant
 use Rattle.packets.specs.declared.PacketLength.{PacketLength}
-use Rattle.packets.specs.declared.PacketLength.TheVariants as length
+use Rattle.packets.specs.declared.PacketLength.TheVariants as long
 use Rattle.packets.specs.declared.PacketReport.{PacketReport}
 use Rattle.packets.specs.declared.PacketReport.TheVariants as report
 use Rattle.packets.specs.Calls.{plain}
@@ -71,6 +71,7 @@ gives n (inr (inr (inr (inr (inr (inl e)))))) = (OfStore Unsound, sym e)
 gives n (inr (inr (inr (inr (inr (inr (inl e))))))) = (OfStore StartsElsewhere, sym e)
 gives n (inr (inr (inr (inr (inr (inr (inr (inl e)))))))) = (StoreTooShort, sym e)
 gives n (inr (inr (inr (inr (inr (inr (inr (inr (inl e))))))))) = (TooManyBytes, sym e)
+gives n (inr (inr (inr (inr (inr (inr (inr (inr (inr x9))))))))) = elim x9 [ ]
 
 never_0 : (why : PacketRefusal) → why_number why ≡ 0 → ⊥
 never_0 StoreTooShort e = omega (arith, e)
@@ -115,10 +116,10 @@ of_grant (grant.Refused why) (grant.Granted q) e = clash (cc)
 of_grant (grant.Refused why) (grant.Refused other) e = ap grant.Refused (same_why why other e)
 
 of_length : (a b : PacketLength) → length_says a ≡ length_says b → a ≡ b
-of_length (length.Length s) (length.Length t) e = let lengths : s.0 ≡ t.0 = cc in ap length.Length (λ i. record { 0 = lengths i })
-of_length (length.Length s) (length.Refused why) e = clash (cc)
-of_length (length.Refused why) (length.Length t) e = clash (cc)
-of_length (length.Refused why) (length.Refused other) e = ap length.Refused (same_why why other e)
+of_length (long.Length s) (long.Length t) e = let lengths : s.0 ≡ t.0 = cc in ap long.Length (λ i. record { 0 = lengths i })
+of_length (long.Length s) (long.Refused why) e = clash (cc)
+of_length (long.Refused why) (long.Length t) e = clash (cc)
+of_length (long.Refused why) (long.Refused other) e = ap long.Refused (same_why why other e)
 
 of_report : (a b : PacketReport) → report_says a ≡ report_says b → a ≡ b
 of_report (report.Report r) (report.Report q) e =

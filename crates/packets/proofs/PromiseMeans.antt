@@ -25,12 +25,12 @@ use Rattle.parts.proofs.Meanings.{bytes_mean}
 use Rattle.packets.specs.declared.Store.{Store}
 use Rattle.packets.specs.declared.Store.TheVariants.{OnChip, External}
 use Rattle.packets.specs.Stores.{Kept, Two, two, at, put, other, with_bytes}
-use Rattle.packets.specs.OneStore.{lent_in, fresh_bytes, filled_by, take_in, length_in, fill_in, read_in, set_up_in}
+use Rattle.packets.specs.OneStore.{lent_in, no_store_yet, fresh_bytes, filled_by, take_in, length_in, fill_in, read_in, set_up_in}
 use Rattle.packets.specs.Calls.{PacketCall, Take, HandBack, Fill, Read, LengthOf, ReportOf, Answered, packet, shows, plain, plainly}
 use Rattle.packets.specs.Calls.{too_short, nine, goes_on, on, from_external, externally, after_first, take_from, refused_by, gate_in}
 use Rattle.packets.specs.Calls.{packet_words, set_up_words, set_up_both_words, audit_in}
 use Rattle.packets.specs.Promise.{MayWrite, PacketPromise, PacketAudit}
-use Rattle.packets.specs.Claims.{no_store, just_set_up, Short, CannotBeRead}
+use Rattle.packets.specs.Claims.{Bare, no_store, just_set_up, Short, CannotBeRead}
 use Rattle.packets.specs.PromiseMeans.{PromiseMeans}
 use Rattle.packets.proofs.Steps.{shows_part, shows_nothing}
 use Rattle.packets.proofs.Setups.{at_put}
@@ -329,7 +329,7 @@ promise_means E = record {
   set_up_refused = λ p. p.refused_none _ refl;
   both_leave = λ p s. p.bytes_kept s;
   both_refused = λ {size} {count} {other-size} {other-count} {k} {t} {u} p s.
-      ap (at s) (p.refused_none k refl) ∙ elim s [ OnChip ↦ refl | External ↦ refl ];
+      ap (at s) (p.refused_none k refl) ∙ elim s as (λ (s : Store). at s (two (no_store_yet t.on_chip) (no_store_yet t.external)) ≡ no_store_yet (at s t)) [ OnChip ↦ refl | External ↦ refl ];
   take_here = take_here E;
   take_stops = take_stops E;
   take_outside_chip = λ asked t k o r long e h f. take_goes_on E asked t k (granted o r) long e h f;
@@ -345,5 +345,5 @@ promise_means E = record {
   cannot_numbers = cannot_numbers;
   none_bare = λ k c s. no_store c s;
   begun_bare = λ k size count sound long. just_set_up size count sound long;
-  each_bare = λ t a b. record { each = λ s. elim s [ OnChip ↦ a | External ↦ b ] };
+  each_bare = λ t a b. record { each = λ s. elim s as (λ (s : Store). Bare E (at s t)) [ OnChip ↦ a | External ↦ b ] };
 }

@@ -12,7 +12,7 @@ use Rattle.packets.specs.declared.Store.TheVariants.{OnChip, External}
 use Rattle.packets.specs.Stores.{Kept, Two}
 use Rattle.packets.specs.Calls.{PacketCall, Answered}
 use Rattle.packets.specs.Promise.{made_on, PacketPromise}
-use Rattle.packets.specs.Runs.{Calling, Auditing, Happened, did, called, audited, PacketRun, nothing, then}
+use Rattle.packets.specs.Runs.{Happened, called, audited, PacketRun, nothing, then}
 use Rattle.packets.specs.Stretch.{PacketStretch, ended, grants_on_chip, grants_outside, returns-on-chip, returns-outside, refuses}
 use Rattle.packets.specs.Stretch.{fills, reads, measures, reports, audits}
 use Rattle.packets.proofs.StretchCalls.{Passes, fill_passes, read_passes, length_passes, report_passes, refused_passes}
@@ -30,6 +30,7 @@ pub no_setups : (ds es : List Done) → NoSetup ds → NoSetup es → NoSetup (d
 no_setups [] es h g = g
 no_setups (below.did (below.Calling c) a ∷ ds) es h g = no_setups ds es h g
 no_setups (below.did (below.Auditing n) a ∷ ds) es h g = no_setups ds es h g
+no_setups (below.did (below.SettingUp size count) a ∷ ds) es h g = elim h [ ]
 
 module _ (E : Edition) where
   pub joined : {w v u : Words} {ds es : List Done} → Run E w ds v → Run E v es u → Run E w (ds ++ es) u

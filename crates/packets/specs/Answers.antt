@@ -10,7 +10,7 @@ use Rattle.packets.specs.declared.PacketAnswer.TheVariants as plainly
 use Rattle.packets.specs.declared.PacketGrant.{PacketGrant}
 use Rattle.packets.specs.declared.PacketGrant.TheVariants as grant
 use Rattle.packets.specs.declared.PacketLength.{PacketLength}
-use Rattle.packets.specs.declared.PacketLength.TheVariants as length
+use Rattle.packets.specs.declared.PacketLength.TheVariants as long
 use Rattle.packets.specs.declared.PacketReport.{PacketReport}
 use Rattle.packets.specs.declared.PacketReport.TheVariants as report
 use Rattle.packets.specs.Calls.{Answered, packet, shows, plain}
@@ -36,8 +36,8 @@ grant_says (grant.Granted p) = packet p.store p.span.offset p.span.metadata.0
 grant_says (grant.Refused why) = plain (refused (why_number why))
 
 abbrev pub length_says : PacketLength → Answered
-length_says (length.Length s) = plain (length_is s.0)
-length_says (length.Refused why) = plain (refused (why_number why))
+length_says (long.Length s) = plain (length_is s.0)
+length_says (long.Refused why) = plain (refused (why_number why))
 
 abbrev pub report_says : PacketReport → Answered
 report_says (report.Report r) = plain (reported r.total_free_space.0 r.largest_free_region.0)

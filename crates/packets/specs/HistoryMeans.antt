@@ -20,10 +20,10 @@ Lacks span (h ∷ held) = (h.span ≢ span) × Lacks span held
 -- the first packet of the list that has this span, with what stands before it and behind it
 pub record FirstOf (span : Token) (held : List Held) : Type 0 where
   pub front : List Held
-  pub packet_held_lem : Held
+  pub held_packet : Held
   pub back : List Held
-  pub list_is : held ≡ front ++ (packet_held_lem ∷ back)
-  pub its_span : packet_held_lem.span ≡ span
+  pub list_is : held ≡ front ++ (held_packet ∷ back)
+  pub its_span : held_packet.span ≡ span
   pub none_before : Lacks span front
 
 pub record HistoryMeans : Type 0 where
@@ -51,7 +51,7 @@ pub record HistoryMeans : Type 0 where
   pub lacks_or_first : (span : Token) (held : List Held) → Lacks span held ⊎ FirstOf span held
   -- the first packet that FirstOf names is the one whose bytes are shown, and what stands before it and behind it is what is left without it
   pub first_is : (span : Token) (held : List Held) (f : FirstOf span held)
-      → (contents span held ≡ some f.packet_held_lem.bytes) × (strike span held ≡ f.front ++ f.back) × Lacks span f.front
+      → (contents span held ≡ some f.held_packet.bytes) × (strike span held ≡ f.front ++ f.back) × Lacks span f.front
   -- contents gives what is in the first; strike takes out that one alone, and refill writes over that one's front alone
   pub contents_first : (span : Token) (front back : List Held) (h : Held) → Lacks span front → h.span ≡ span
       → contents span (front ++ (h ∷ back)) ≡ some h.bytes

@@ -26,8 +26,8 @@ use Rattle.packets.specs.Stretch.{PacketStretch, all_told}
 abbrev pub takes : (size : ℕ) → Asking
 takes size = Calling (Take record { size = size })
 
-abbrev pub hands_back_lem : Store → (o r : ℕ) → Asking
-hands_back_lem s o r = Calling (HandBack s (span_of o r))
+abbrev pub gives_back : Store → (o r : ℕ) → Asking
+gives_back s o r = Calling (HandBack s (span_of o r))
 
 abbrev pub fills : Store → (o r : ℕ) → List ℕ → Asking
 fills s o r new = Calling (Fill s (span_of o r) new)
@@ -42,8 +42,8 @@ abbrev pub asks_report : Store → Asking
 asks_report s = Calling (ReportOf s)
 
 -- ---- and answered
-abbrev pub is_done_lem : Answered
-is_done_lem = plain done
+abbrev pub says_done : Answered
+says_done = plain done
 
 abbrev pub refuses : ℕ → Answered
 refuses k = plain (refused k)
@@ -169,7 +169,7 @@ pub record RowsMean : Type 0 where
 abbrev pub every_call : List Asking
 every_call =
     takes 1 ∷ takes 9 ∷ takes 99
-    ∷ hands_back_lem OnChip 0 0 ∷ hands_back_lem External 0 0 ∷ hands_back_lem OnChip 0 3 ∷ hands_back_lem External 1 0
+    ∷ gives_back OnChip 0 0 ∷ gives_back External 0 0 ∷ gives_back OnChip 0 3 ∷ gives_back External 1 0
     ∷ fills OnChip 0 0 (1 ∷ []) ∷ fills External 0 0 (1 ∷ []) ∷ fills OnChip 0 0 (1 ∷ 2 ∷ 3 ∷ 4 ∷ []) ∷ fills OnChip 0 0 []
     ∷ asks_length OnChip 0 0 ∷ asks_length External 0 0 ∷ asks_report OnChip ∷ asks_report External
     ∷ Auditing OnChip 4 ∷ Auditing External 4 ∷ Auditing External 0
@@ -183,7 +183,7 @@ all_refused k = replicate 18 (refuses k) ++ (shows [] ∷ shows [] ∷ [])
 pub record PacketRows : Type 0 where
   -- ---- "keeps packets in an on-chip store and an external one, each with its own tables": both set up, nothing taken, no byte written
   pub begun : From nowhere (SettingUpBoth 8 4 20 4 ∷ asks_report OnChip ∷ asks_report External ∷ Auditing OnChip 4 ∷ Auditing External 4 ∷ [])
-      (is_done_lem ∷ reports 8 8 ∷ reports 20 20 ∷ is_done_lem ∷ is_done_lem ∷ [])
+      (says_done ∷ reports 8 8 ∷ reports 20 20 ∷ says_done ∷ says_done ∷ [])
   pub begun_bytes : LeavingBytes [] (replicate 8 7) (replicate 20 7)
   -- ---- "A take tries on-chip first": as long as it has room, down to its last byte; only then is the external store touched
   pub on_chip_first : Answering
@@ -193,8 +193,8 @@ pub record PacketRows : Type 0 where
   pub external_on_4 : Answering (takes 9 ∷ takes 8 ∷ takes 9 ∷ asks_report External ∷ [])
       (packet External 0 0 ∷ packet OnChip 0 0 ∷ packet External 9 1 ∷ reports 0 0 ∷ [])
   -- on 3: the on-chip store has six free bytes but one spare record, until a hand-back merges two regions
-  pub external_on_3 : Answering (takes 1 ∷ takes 1 ∷ takes 1 ∷ asks_report OnChip ∷ asks_report External ∷ hands_back_lem OnChip 1 1 ∷ takes 1 ∷ [])
-      (packet OnChip 0 0 ∷ packet OnChip 1 1 ∷ packet External 0 0 ∷ reports 0 0 ∷ reports 19 18 ∷ is_done_lem ∷ packet OnChip 1 1 ∷ [])
+  pub external_on_3 : Answering (takes 1 ∷ takes 1 ∷ takes 1 ∷ asks_report OnChip ∷ asks_report External ∷ gives_back OnChip 1 1 ∷ takes 1 ∷ [])
+      (packet OnChip 0 0 ∷ packet OnChip 1 1 ∷ packet External 0 0 ∷ reports 0 0 ∷ reports 19 18 ∷ says_done ∷ packet OnChip 1 1 ∷ [])
   -- "or gives the refusal of the last store tried": 3 on the chip and then 4 outside it is 4; 4 and then 3 is 3; 4 and 4, 3 and 3
   pub three_then_four : Answering (takes 1 ∷ takes 1 ∷ takes 21 ∷ takes 20 ∷ takes 0 ∷ [])
       (packet OnChip 0 0 ∷ packet OnChip 1 1 ∷ refuses 4 ∷ packet External 0 0 ∷ refuses 4 ∷ [])
@@ -225,22 +225,22 @@ pub record PacketRows : Type 0 where
   pub marked_each : LeavingBytes (takes 3 ∷ takes 9 ∷ []) (255 ∷ 255 ∷ 255 ∷ 7 ∷ 7 ∷ 7 ∷ 7 ∷ 7 ∷ []) (replicate 9 255 ++ replicate 11 7)
   -- ---- "Filling .. more bytes than the span holds is 17, after all else, and fewer fill its front": fewer, as many, one more, none, and twice
   pub fills_fewer : Answering (takes 3 ∷ fills OnChip 0 0 (1 ∷ 2 ∷ []) ∷ reads OnChip 0 0 ∷ asks_length OnChip 0 0 ∷ [])
-      (packet OnChip 0 0 ∷ is_done_lem ∷ shows (1 ∷ 2 ∷ 255 ∷ []) ∷ long 3 ∷ [])
+      (packet OnChip 0 0 ∷ says_done ∷ shows (1 ∷ 2 ∷ 255 ∷ []) ∷ long 3 ∷ [])
   pub fills_all : Answering (takes 3 ∷ fills OnChip 0 0 (1 ∷ 2 ∷ 3 ∷ []) ∷ reads OnChip 0 0 ∷ [])
-      (packet OnChip 0 0 ∷ is_done_lem ∷ shows (1 ∷ 2 ∷ 3 ∷ []) ∷ [])
+      (packet OnChip 0 0 ∷ says_done ∷ shows (1 ∷ 2 ∷ 3 ∷ []) ∷ [])
   pub fills_one_more : Unchanged with_packets (fills OnChip 0 0 (1 ∷ 2 ∷ 3 ∷ 4 ∷ []) ∷ fills External 0 0 (replicate 10 1) ∷ reads OnChip 0 0 ∷ [])
       (refuses 17 ∷ refuses 17 ∷ shows (255 ∷ 255 ∷ 255 ∷ []) ∷ [])
   pub fills_none : Unchanged with_packets (fills OnChip 0 0 [] ∷ fills External 0 0 [] ∷ reads OnChip 0 0 ∷ [])
-      (is_done_lem ∷ is_done_lem ∷ shows (255 ∷ 255 ∷ 255 ∷ []) ∷ [])
+      (says_done ∷ says_done ∷ shows (255 ∷ 255 ∷ 255 ∷ []) ∷ [])
   pub fills_twice : Answering (takes 3 ∷ fills OnChip 0 0 (1 ∷ 2 ∷ 3 ∷ []) ∷ fills OnChip 0 0 (4 ∷ []) ∷ reads OnChip 0 0 ∷ [])
-      (packet OnChip 0 0 ∷ is_done_lem ∷ is_done_lem ∷ shows (4 ∷ 2 ∷ 3 ∷ []) ∷ [])
+      (packet OnChip 0 0 ∷ says_done ∷ says_done ∷ shows (4 ∷ 2 ∷ 3 ∷ []) ∷ [])
   -- "just the packet's own bytes inside the store", "Bytes outside the granted span .. stay put": where it does not begin at 0, in either store
   pub fills_in_place : LeavingBytes (takes 2 ∷ takes 3 ∷ fills OnChip 2 1 (1 ∷ 2 ∷ []) ∷ []) (255 ∷ 255 ∷ 1 ∷ 2 ∷ 255 ∷ 7 ∷ 7 ∷ 7 ∷ []) (replicate 20 7)
   pub fills_in_place_external : LeavingBytes (takes 9 ∷ takes 9 ∷ fills External 9 1 (1 ∷ 2 ∷ []) ∷ [])
       (replicate 8 7) (replicate 9 255 ++ (1 ∷ 2 ∷ replicate 7 255 ++ (7 ∷ 7 ∷ [])))
   -- the span is what holds, not what the store has behind it
   pub span_holds : Answering (takes 2 ∷ takes 3 ∷ fills OnChip 2 1 (1 ∷ 2 ∷ 3 ∷ 4 ∷ []) ∷ fills OnChip 2 1 (1 ∷ 2 ∷ 3 ∷ []) ∷ reads OnChip 0 0 ∷ [])
-      (packet OnChip 0 0 ∷ packet OnChip 2 1 ∷ refuses 17 ∷ is_done_lem ∷ shows (255 ∷ 255 ∷ []) ∷ [])
+      (packet OnChip 0 0 ∷ packet OnChip 2 1 ∷ refuses 17 ∷ says_done ∷ shows (255 ∷ 255 ∷ []) ∷ [])
   -- "17, after all else": 5, 8, 6 and 2 come before it
   pub after_all_else : Unchanged with_packets (fills OnChip 0 1 (replicate 9 1) ∷ fills OnChip 1 0 (replicate 9 1) ∷ []) (refuses 5 ∷ refuses 8 ∷ [])
   pub after_6 : Unchanged (on_chip_so (counting 1) with_packets) (fills OnChip 0 0 (replicate 9 1) ∷ fills OnChip 0 0 [] ∷ []) (refuses 6 ∷ refuses 6 ∷ [])
@@ -250,40 +250,40 @@ pub record PacketRows : Type 0 where
   pub reads_either : Answering
       (takes 3 ∷ takes 9 ∷ fills OnChip 0 0 (1 ∷ 2 ∷ 3 ∷ []) ∷ fills External 0 0 (4 ∷ 5 ∷ []) ∷ reads OnChip 0 0 ∷ reads External 0 0
       ∷ asks_length OnChip 0 0 ∷ asks_length External 0 0
-      ∷ hands_back_lem OnChip 0 0 ∷ reads OnChip 0 0 ∷ reads External 0 0 ∷ asks_length OnChip 0 0 ∷ asks_length External 0 0 ∷ [])
-      (packet OnChip 0 0 ∷ packet External 0 0 ∷ is_done_lem ∷ is_done_lem ∷ shows (1 ∷ 2 ∷ 3 ∷ []) ∷ shows (4 ∷ 5 ∷ replicate 7 255)
+      ∷ gives_back OnChip 0 0 ∷ reads OnChip 0 0 ∷ reads External 0 0 ∷ asks_length OnChip 0 0 ∷ asks_length External 0 0 ∷ [])
+      (packet OnChip 0 0 ∷ packet External 0 0 ∷ says_done ∷ says_done ∷ shows (1 ∷ 2 ∷ 3 ∷ []) ∷ shows (4 ∷ 5 ∷ replicate 7 255)
       ∷ long 3 ∷ long 9
-      ∷ is_done_lem ∷ shows [] ∷ shows (4 ∷ 5 ∷ replicate 7 255) ∷ refuses 5 ∷ long 9 ∷ [])
+      ∷ says_done ∷ shows [] ∷ shows (4 ∷ 5 ∷ replicate 7 255) ∷ refuses 5 ∷ long 9 ∷ [])
   pub reads_amid : Answering (takes 9 ∷ takes 9 ∷ fills External 9 1 (1 ∷ 2 ∷ []) ∷ reads External 9 1 ∷ reads External 0 0 ∷ [])
-      (packet External 0 0 ∷ packet External 9 1 ∷ is_done_lem ∷ shows (1 ∷ 2 ∷ replicate 7 255) ∷ shows (replicate 9 255) ∷ [])
+      (packet External 0 0 ∷ packet External 9 1 ∷ says_done ∷ shows (1 ∷ 2 ∷ replicate 7 255) ∷ shows (replicate 9 255) ∷ [])
   -- a read and the questions change nothing
   pub only_asked : Unchanged with_packets (reads OnChip 0 0 ∷ asks_length External 0 0 ∷ asks_report OnChip ∷ asks_report External ∷ Auditing OnChip 4 ∷ [])
-      (shows (255 ∷ 255 ∷ 255 ∷ []) ∷ long 9 ∷ reports 5 5 ∷ reports 11 11 ∷ is_done_lem ∷ [])
+      (shows (255 ∷ 255 ∷ 255 ∷ []) ∷ long 9 ∷ reports 5 5 ∷ reports 11 11 ∷ says_done ∷ [])
   -- "asking the length tells that from an empty packet": one of 0 bytes is read empty, as after a refusal, and its length is 0
   pub of_no_bytes : Answering
-      (takes 0 ∷ reads OnChip 0 0 ∷ asks_length OnChip 0 0 ∷ fills OnChip 0 0 [] ∷ fills OnChip 0 0 (1 ∷ []) ∷ hands_back_lem OnChip 0 0
+      (takes 0 ∷ reads OnChip 0 0 ∷ asks_length OnChip 0 0 ∷ fills OnChip 0 0 [] ∷ fills OnChip 0 0 (1 ∷ []) ∷ gives_back OnChip 0 0
       ∷ reads OnChip 0 0 ∷ asks_length OnChip 0 0 ∷ [])
-      (packet OnChip 0 0 ∷ shows [] ∷ long 0 ∷ is_done_lem ∷ refuses 17 ∷ is_done_lem ∷ shows [] ∷ refuses 5 ∷ [])
-  pub of_no_bytes_left : LeavingBytes (takes 0 ∷ fills OnChip 0 0 [] ∷ fills OnChip 0 0 (1 ∷ []) ∷ hands_back_lem OnChip 0 0 ∷ [])
+      (packet OnChip 0 0 ∷ shows [] ∷ long 0 ∷ says_done ∷ refuses 17 ∷ says_done ∷ shows [] ∷ refuses 5 ∷ [])
+  pub of_no_bytes_left : LeavingBytes (takes 0 ∷ fills OnChip 0 0 [] ∷ fills OnChip 0 0 (1 ∷ []) ∷ gives_back OnChip 0 0 ∷ [])
       (replicate 8 7) (replicate 20 7)
   -- "and an empty part on a refusal": a packet handed back is 5 to each call; its bytes stay in the store, and none is shown
   pub handed_back_lem : Answering
-      (takes 3 ∷ fills OnChip 0 0 (1 ∷ 2 ∷ 3 ∷ []) ∷ hands_back_lem OnChip 0 0 ∷ reads OnChip 0 0 ∷ asks_length OnChip 0 0 ∷ fills OnChip 0 0 (1 ∷ [])
-      ∷ fills OnChip 0 0 (1 ∷ 2 ∷ 3 ∷ 4 ∷ []) ∷ hands_back_lem OnChip 0 0 ∷ [])
-      (packet OnChip 0 0 ∷ is_done_lem ∷ is_done_lem ∷ shows [] ∷ refuses 5 ∷ refuses 5 ∷ refuses 5 ∷ refuses 5 ∷ [])
-  pub handed_back_bytes : LeavingBytes (takes 3 ∷ fills OnChip 0 0 (1 ∷ 2 ∷ 3 ∷ []) ∷ hands_back_lem OnChip 0 0 ∷ fills OnChip 0 0 (4 ∷ []) ∷ [])
+      (takes 3 ∷ fills OnChip 0 0 (1 ∷ 2 ∷ 3 ∷ []) ∷ gives_back OnChip 0 0 ∷ reads OnChip 0 0 ∷ asks_length OnChip 0 0 ∷ fills OnChip 0 0 (1 ∷ [])
+      ∷ fills OnChip 0 0 (1 ∷ 2 ∷ 3 ∷ 4 ∷ []) ∷ gives_back OnChip 0 0 ∷ [])
+      (packet OnChip 0 0 ∷ says_done ∷ says_done ∷ shows [] ∷ refuses 5 ∷ refuses 5 ∷ refuses 5 ∷ refuses 5 ∷ [])
+  pub handed_back_bytes : LeavingBytes (takes 3 ∷ fills OnChip 0 0 (1 ∷ 2 ∷ 3 ∷ []) ∷ gives_back OnChip 0 0 ∷ fills OnChip 0 0 (4 ∷ []) ∷ [])
       (1 ∷ 2 ∷ 3 ∷ 7 ∷ 7 ∷ 7 ∷ 7 ∷ 7 ∷ []) (replicate 20 7)
   -- "so that no old reading shows": the pair granted again is the new packet; what was filled before lies behind it
   pub granted_again : Answering
-      (takes 3 ∷ fills OnChip 0 0 (1 ∷ 2 ∷ 3 ∷ []) ∷ hands_back_lem OnChip 0 0 ∷ takes 2 ∷ reads OnChip 0 0 ∷ asks_length OnChip 0 0 ∷ [])
-      (packet OnChip 0 0 ∷ is_done_lem ∷ is_done_lem ∷ packet OnChip 0 0 ∷ shows (255 ∷ 255 ∷ []) ∷ long 2 ∷ [])
-  pub granted_again_bytes : LeavingBytes (takes 3 ∷ fills OnChip 0 0 (1 ∷ 2 ∷ 3 ∷ []) ∷ hands_back_lem OnChip 0 0 ∷ takes 2 ∷ [])
+      (takes 3 ∷ fills OnChip 0 0 (1 ∷ 2 ∷ 3 ∷ []) ∷ gives_back OnChip 0 0 ∷ takes 2 ∷ reads OnChip 0 0 ∷ asks_length OnChip 0 0 ∷ [])
+      (packet OnChip 0 0 ∷ says_done ∷ says_done ∷ packet OnChip 0 0 ∷ shows (255 ∷ 255 ∷ []) ∷ long 2 ∷ [])
+  pub granted_again_bytes : LeavingBytes (takes 3 ∷ fills OnChip 0 0 (1 ∷ 2 ∷ 3 ∷ []) ∷ gives_back OnChip 0 0 ∷ takes 2 ∷ [])
       (255 ∷ 255 ∷ 3 ∷ 7 ∷ 7 ∷ 7 ∷ 7 ∷ 7 ∷ []) (replicate 20 7)
   -- request 3's "the record is live but starts elsewhere", of each store: 8 to each call, and 5 for a record that is not live there or is none
   pub elsewhere : Unchanged (left (takes 2 ∷ takes 3 ∷ takes 9 ∷ []) fresh)
-      (hands_back_lem OnChip 0 1 ∷ asks_length OnChip 0 1 ∷ fills OnChip 0 1 (1 ∷ []) ∷ reads OnChip 0 1 ∷ asks_length OnChip 2 1
-      ∷ hands_back_lem External 2 0 ∷ asks_length External 2 0 ∷ fills External 2 0 (1 ∷ []) ∷ reads External 2 0 ∷ asks_length External 0 0
-      ∷ hands_back_lem External 2 1 ∷ asks_length OnChip 0 4 ∷ [])
+      (gives_back OnChip 0 1 ∷ asks_length OnChip 0 1 ∷ fills OnChip 0 1 (1 ∷ []) ∷ reads OnChip 0 1 ∷ asks_length OnChip 2 1
+      ∷ gives_back External 2 0 ∷ asks_length External 2 0 ∷ fills External 2 0 (1 ∷ []) ∷ reads External 2 0 ∷ asks_length External 0 0
+      ∷ gives_back External 2 1 ∷ asks_length OnChip 0 4 ∷ [])
       (refuses 8 ∷ refuses 8 ∷ refuses 8 ∷ shows [] ∷ long 3 ∷ refuses 8 ∷ refuses 8 ∷ refuses 8 ∷ shows [] ∷ long 9 ∷ refuses 5 ∷ refuses 5 ∷ [])
   -- ---- "If either store is shorter in bytes than its allocator's size, the call is refused as 9, before anything else": by one byte, to every call,
   -- whichever store it names; a read shows nothing, and all stays
@@ -311,7 +311,7 @@ pub record PacketRows : Type 0 where
   -- one that ends with the size does not; and it is the size that counts, not how many bytes there are
   pub ends_with_the_size : From (on_chip_so (as_long 1 6) (left (takes 2 ∷ takes 3 ∷ []) fresh))
       (asks_length OnChip 2 1 ∷ reads OnChip 2 1 ∷ fills OnChip 2 1 (replicate 7 1) ∷ fills OnChip 2 1 (replicate 6 1) ∷ reads OnChip 2 1 ∷ [])
-      (long 6 ∷ shows (255 ∷ 255 ∷ 255 ∷ 7 ∷ 7 ∷ 7 ∷ []) ∷ refuses 17 ∷ is_done_lem ∷ shows (replicate 6 1) ∷ [])
+      (long 6 ∷ shows (255 ∷ 255 ∷ 255 ∷ 7 ∷ 7 ∷ 7 ∷ []) ∷ refuses 17 ∷ says_done ∷ shows (replicate 6 1) ∷ [])
   pub the_size_counts : Unchanged (on_chip_so (λ k. having 9 (as_long 1 7 k)) (left (takes 2 ∷ takes 3 ∷ []) fresh))
       (asks_length OnChip 2 1 ∷ fills OnChip 2 1 (1 ∷ []) ∷ reads OnChip 2 1 ∷ []) (refuses 6 ∷ refuses 6 ∷ shows [] ∷ [])
   -- ---- setup of both, with packets out of both: refused by a store's 1 or 2, neither store is there, whichever it was; the on-chip store's number first
@@ -334,31 +334,31 @@ pub record PacketRows : Type 0 where
   -- it is the size asked for that the bytes are held to, not the size of the stores that were; accepted, no packet is out, and no byte changes
   pub both_again : From (on_chip_so (having 7) with_packets)
       (SettingUpBoth 7 4 19 4 ∷ asks_report OnChip ∷ asks_report External ∷ asks_length OnChip 0 0 ∷ reads External 0 0 ∷ takes 7 ∷ [])
-      (is_done_lem ∷ reports 7 7 ∷ reports 19 18 ∷ refuses 5 ∷ shows [] ∷ packet OnChip 0 0 ∷ [])
+      (says_done ∷ reports 7 7 ∷ reports 19 18 ∷ refuses 5 ∷ shows [] ∷ packet OnChip 0 0 ∷ [])
   pub both_again_bytes : LeavingBytes (takes 3 ∷ takes 9 ∷ SettingUpBoth 8 4 20 4 ∷ [])
       (255 ∷ 255 ∷ 255 ∷ 7 ∷ 7 ∷ 7 ∷ 7 ∷ 7 ∷ []) (replicate 9 255 ++ replicate 11 7)
   -- stores of 0 bytes each hold one packet of 0 bytes
   pub both_of_0 : From nowhere (SettingUpBoth 0 4 0 4 ∷ takes 0 ∷ takes 0 ∷ takes 0 ∷ takes 1 ∷ [])
-      (is_done_lem ∷ packet OnChip 0 0 ∷ packet External 0 0 ∷ refuses 4 ∷ refuses 4 ∷ [])
+      (says_done ∷ packet OnChip 0 0 ∷ packet External 0 0 ∷ refuses 4 ∷ refuses 4 ∷ [])
   -- ---- setup of one store: the other may not be there yet. Where the on-chip store is not, a take is 6, and "on 3 or 4 only" leaves it at that
   pub on_chip_alone : From nowhere
       (SettingUp OnChip 8 4 ∷ takes 3 ∷ takes 9 ∷ SettingUp External 20 4 ∷ takes 9 ∷ reads OnChip 0 0 ∷ [])
-      (is_done_lem ∷ packet OnChip 0 0 ∷ refuses 6 ∷ is_done_lem ∷ packet External 0 0 ∷ shows (255 ∷ 255 ∷ 255 ∷ []) ∷ [])
+      (says_done ∷ packet OnChip 0 0 ∷ refuses 6 ∷ says_done ∷ packet External 0 0 ∷ shows (255 ∷ 255 ∷ 255 ∷ []) ∷ [])
   pub external_alone : From nowhere (SettingUp External 20 4 ∷ takes 3 ∷ asks_report External ∷ asks_report OnChip ∷ SettingUp OnChip 8 4 ∷ takes 3 ∷ [])
-      (is_done_lem ∷ refuses 6 ∷ reports 20 20 ∷ refuses 6 ∷ is_done_lem ∷ packet OnChip 0 0 ∷ [])
+      (says_done ∷ refuses 6 ∷ reports 20 20 ∷ refuses 6 ∷ says_done ∷ packet OnChip 0 0 ∷ [])
   -- one set up after the other is as both set up
   pub one_by_one : left (SettingUp External 20 4 ∷ SettingUp OnChip 8 4 ∷ []) nowhere ≡ fresh
   -- set up again, its packets are out no more, and the other store's are
   pub on_chip_again : From with_packets
       (SettingUp OnChip 8 4 ∷ reads OnChip 0 0 ∷ asks_length OnChip 0 0 ∷ reads External 0 0 ∷ asks_length External 0 0 ∷ takes 3 ∷ [])
-      (is_done_lem ∷ shows [] ∷ refuses 5 ∷ shows (replicate 9 255) ∷ long 9 ∷ packet OnChip 0 0 ∷ [])
+      (says_done ∷ shows [] ∷ refuses 5 ∷ shows (replicate 9 255) ∷ long 9 ∷ packet OnChip 0 0 ∷ [])
   pub external_again : From with_packets
       (SettingUp External 20 4 ∷ reads External 0 0 ∷ asks_length External 0 0 ∷ reads OnChip 0 0 ∷ asks_length OnChip 0 0 ∷ takes 9 ∷ [])
-      (is_done_lem ∷ shows [] ∷ refuses 5 ∷ shows (255 ∷ 255 ∷ 255 ∷ []) ∷ long 3 ∷ packet External 0 0 ∷ [])
+      (says_done ∷ shows [] ∷ refuses 5 ∷ shows (255 ∷ 255 ∷ 255 ∷ []) ∷ long 3 ∷ packet External 0 0 ∷ [])
   -- refused by its own 1 or 2 it is not there, and the other one stays
   pub on_chip_refused : From with_packets
-      (SettingUp OnChip 8 1 ∷ asks_length OnChip 0 0 ∷ reads OnChip 0 0 ∷ asks_length External 0 0 ∷ takes 1 ∷ hands_back_lem External 0 0 ∷ [])
-      (refuses 1 ∷ refuses 6 ∷ shows [] ∷ long 9 ∷ refuses 6 ∷ is_done_lem ∷ [])
+      (SettingUp OnChip 8 1 ∷ asks_length OnChip 0 0 ∷ reads OnChip 0 0 ∷ asks_length External 0 0 ∷ takes 1 ∷ gives_back External 0 0 ∷ [])
+      (refuses 1 ∷ refuses 6 ∷ shows [] ∷ long 9 ∷ refuses 6 ∷ says_done ∷ [])
   pub external_refused : From with_packets
       (SettingUp External 20 5 ∷ asks_length External 0 0 ∷ reads External 0 0 ∷ asks_length OnChip 0 0 ∷ takes 1 ∷ takes 9 ∷ [])
       (refuses 2 ∷ refuses 6 ∷ shows [] ∷ long 3 ∷ packet OnChip 3 1 ∷ refuses 6 ∷ [])
@@ -370,15 +370,15 @@ pub record PacketRows : Type 0 where
   pub one_nine_first : From with_packets (SettingUp OnChip 9 1 ∷ SettingUp OnChip 9 5 ∷ SettingUp External 21 1 ∷ []) (refuses 9 ∷ refuses 9 ∷ refuses 9 ∷ [])
   pub other's_nine : From (external_so (having 19) with_packets)
       (SettingUp OnChip 8 4 ∷ SettingUp OnChip 8 1 ∷ SettingUp External 19 4 ∷ SettingUp OnChip 8 4 ∷ takes 3 ∷ takes 9 ∷ [])
-      (refuses 9 ∷ refuses 9 ∷ is_done_lem ∷ is_done_lem ∷ packet OnChip 0 0 ∷ packet External 0 0 ∷ [])
+      (refuses 9 ∷ refuses 9 ∷ says_done ∷ says_done ∷ packet OnChip 0 0 ∷ packet External 0 0 ∷ [])
   pub other's_nine_on_chip : From (on_chip_so (having 7) with_packets)
       (SettingUp External 20 4 ∷ SettingUp External 20 1 ∷ SettingUp OnChip 7 4 ∷ SettingUp External 20 4 ∷ takes 3 ∷ takes 9 ∷ [])
-      (refuses 9 ∷ refuses 9 ∷ is_done_lem ∷ is_done_lem ∷ packet OnChip 0 0 ∷ packet External 0 0 ∷ [])
+      (refuses 9 ∷ refuses 9 ∷ says_done ∷ says_done ∷ packet OnChip 0 0 ∷ packet External 0 0 ∷ [])
   pub one_bytes : LeavingBytes (takes 3 ∷ takes 9 ∷ SettingUp OnChip 8 4 ∷ SettingUp External 20 1 ∷ [])
       (255 ∷ 255 ∷ 255 ∷ 7 ∷ 7 ∷ 7 ∷ 7 ∷ 7 ∷ []) (replicate 9 255 ++ replicate 11 7)
   -- ---- the audit of the store that is named: 6 where its words are not sound, 2 for its scratch, whatever the other store is
   pub audited : From (on_chip_so (as_long 0 4) with_packets) (Auditing OnChip 4 ∷ Auditing External 4 ∷ Auditing External 3 ∷ [])
-      (refuses 6 ∷ is_done_lem ∷ refuses 2 ∷ [])
+      (refuses 6 ∷ says_done ∷ refuses 2 ∷ [])
   -- refused as 9 it leaves its scratch as it came; otherwise 0 below the count
   pub scratch_kept : audit_in edition32 OnChip (on_chip_so (having 7) with_packets) (replicate 5 7) ≡ (refused 9, replicate 5 7)
   pub scratch_cleared : audit_in edition32 OnChip with_packets (replicate 5 7) ≡ (done, 0 ∷ 0 ∷ 0 ∷ 0 ∷ 7 ∷ [])
@@ -390,7 +390,7 @@ pub record PacketRows : Type 0 where
   pub made_on_6 : Makes (Take record { size = 9 }) nowhere (once (ledger.takes 9) (refused 6)) []
   pub made_on_9 : Makes (Take record { size = 9 }) (external_so (having 19) fresh) [] []
   -- of every other call one, on the store that is named, with its answer there; a fill and a read ask for the length
-  pub made_by_hand_back : Makes (HandBack External (span_of 0 0)) with_packets [] (once (ledger.hands_back_lem 0 0) done)
+  pub made_by_hand_back : Makes (HandBack External (span_of 0 0)) with_packets [] (once (ledger.gives_back 0 0) done)
   pub made_by_fill : Makes (Fill OnChip (span_of 0 0) (replicate 4 1)) with_packets (once (ledger.asks_size 0 0) (length_is 3)) []
   pub made_by_read : Makes (Read External (span_of 1 0)) with_packets [] (once (ledger.asks_size 1 0) (refused 8))
   pub made_by_length : Makes (LengthOf OnChip (span_of 0 1)) with_packets (once (ledger.asks_size 0 1) (refused 5)) []
@@ -405,19 +405,19 @@ pub record PacketRows : Type 0 where
   -- it is named by its offset and its record, both
   pub shelved_pair : shelved OnChip 1 0 (takes 3 ∷ []) ≡ none
   pub shelved_empty : shelved OnChip 0 0 (takes 0 ∷ takes 2 ∷ fills OnChip 0 1 (1 ∷ []) ∷ []) ≡ some []
-  pub shelved_beside : shelved OnChip 0 1 (takes 0 ∷ takes 2 ∷ fills OnChip 0 1 (1 ∷ []) ∷ hands_back_lem OnChip 0 0 ∷ []) ≡ some (1 ∷ 255 ∷ [])
+  pub shelved_beside : shelved OnChip 0 1 (takes 0 ∷ takes 2 ∷ fills OnChip 0 1 (1 ∷ []) ∷ gives_back OnChip 0 0 ∷ []) ≡ some (1 ∷ 255 ∷ [])
   -- handed back, or its store set up, accepted or refused, it is out no more; otherwise it stays out
-  pub shelved_back : shelved OnChip 0 0 (takes 3 ∷ hands_back_lem OnChip 0 0 ∷ []) ≡ none
-  pub shelved_again : shelved OnChip 0 0 (takes 3 ∷ fills OnChip 0 0 (1 ∷ []) ∷ hands_back_lem OnChip 0 0 ∷ takes 2 ∷ []) ≡ some (255 ∷ 255 ∷ [])
+  pub shelved_back : shelved OnChip 0 0 (takes 3 ∷ gives_back OnChip 0 0 ∷ []) ≡ none
+  pub shelved_again : shelved OnChip 0 0 (takes 3 ∷ fills OnChip 0 0 (1 ∷ []) ∷ gives_back OnChip 0 0 ∷ takes 2 ∷ []) ≡ some (255 ∷ 255 ∷ [])
   pub shelved_anew : shelved OnChip 0 0 (takes 3 ∷ SettingUp OnChip 8 4 ∷ []) ≡ none
   pub shelved_no_store : shelved OnChip 0 0 (takes 3 ∷ SettingUp OnChip 8 1 ∷ []) ≡ none
   pub shelved_neither : shelved OnChip 0 0 (takes 3 ∷ SettingUpBoth 8 4 20 1 ∷ []) ≡ none
   pub shelved_still : shelved OnChip 0 0
-      (takes 3 ∷ takes 9 ∷ takes 99 ∷ hands_back_lem External 0 0 ∷ hands_back_lem OnChip 1 0 ∷ SettingUp External 20 4 ∷ SettingUp External 20 1
+      (takes 3 ∷ takes 9 ∷ takes 99 ∷ gives_back External 0 0 ∷ gives_back OnChip 1 0 ∷ SettingUp External 20 4 ∷ SettingUp External 20 1
       ∷ Auditing OnChip 4 ∷ [])
       ≡ some (255 ∷ 255 ∷ 255 ∷ [])
   -- a hand-back that is refused, as it is where 9 is met, strikes none
-  pub shelved_refused : contents (span_of 0 0) (shelf OnChip (did (takes 3) (packet OnChip 0 0) ∷ did (hands_back_lem OnChip 0 0) (refuses 9) ∷ []) [])
+  pub shelved_refused : contents (span_of 0 0) (shelf OnChip (did (takes 3) (packet OnChip 0 0) ∷ did (gives_back OnChip 0 0) (refuses 9) ∷ []) [])
       ≡ some (255 ∷ 255 ∷ 255 ∷ [])
   -- the fills alone, over what was in it: one of the other store, one refused and one of another span are none
   pub filled_since_lem : filled_since OnChip (span_of 0 0)
@@ -429,7 +429,7 @@ pub record PacketRows : Type 0 where
   pub a_stretch : PacketStretch [] []
       (history (takes 1 ∷ takes 9 ∷ takes 2 ∷ takes 99 ∷ fills OnChip 1 1 (1 ∷ []) ∷ fills OnChip 1 1 (1 ∷ 2 ∷ 3 ∷ []) ∷ reads External 0 0
       ∷ asks_length OnChip 0 0 ∷ asks_report External ∷ Auditing OnChip 4
-      ∷ hands_back_lem OnChip 1 1 ∷ hands_back_lem OnChip 0 0 ∷ hands_back_lem External 0 0 ∷ hands_back_lem External 0 0 ∷ []) fresh)
+      ∷ gives_back OnChip 1 1 ∷ gives_back OnChip 0 0 ∷ gives_back External 0 0 ∷ gives_back External 0 0 ∷ []) fresh)
   -- "not for bytes": of a read its length is told
   pub told_lengths : all_told (history (takes 3 ∷ reads OnChip 0 0 ∷ asks_length OnChip 0 0 ∷ reads OnChip 0 1 ∷ []) fresh)
       ≡ packet OnChip 0 0 ∷ long 3 ∷ long 3 ∷ long 0 ∷ []

@@ -1,5 +1,7 @@
 // A packet layer over two stores of bytes, one on the chip and one outside it, each with an allocator of its own. What is here are its values: which
 // store, a packet, why a call is refused, and what the calls answer; specs/ has what they mean, what each call promises, and what holds of every run.
+#![tactic(auto)]
+
 ghost use Rattle.std.specs.Prelude.{◌≡◌};
 ghost use Rattle.packets.specs.Answers.{why_number, refusal_in, done_says, grant_says, length_says, report_says};
 
@@ -7,21 +9,21 @@ use answers::{Allocation, Refusal, StorageReport};
 use small_float::Size;
 
 // Which store holds a packet.
-#[derive(Drop)]
+#[derive(Clone, Copy)]
 pub enum Store {
     OnChip,
     External,
 }
 
 // A packet is named by the store that holds it and by its span there: offset and handle.
-#[derive(Drop)]
+#[derive(Clone, Copy)]
 pub struct Packet {
     pub store: Store,
     pub span: Allocation,
 }
 
 // Why a call is refused.
-#[derive(Drop)]
+#[derive(Clone, Copy)]
 pub enum PacketRefusal {
     // 9: a store is shorter in bytes than its allocator's size
     StoreTooShort,
@@ -46,7 +48,7 @@ impl PacketRefusal {
 }
 
 // Setup, hand back, fill and audit.
-#[derive(Drop)]
+#[derive(Clone, Copy)]
 pub enum PacketAnswer {
     Done,
     Refused(PacketRefusal),
@@ -65,7 +67,7 @@ impl PacketAnswer {
 }
 
 // Take: the packet says which store.
-#[derive(Drop)]
+#[derive(Clone, Copy)]
 pub enum PacketGrant {
     Granted(Packet),
     Refused(PacketRefusal),
@@ -84,7 +86,7 @@ impl PacketGrant {
 }
 
 // A packet's length.
-#[derive(Drop)]
+#[derive(Clone, Copy)]
 pub enum PacketLength {
     Length(Size),
     Refused(PacketRefusal),
@@ -103,7 +105,7 @@ impl PacketLength {
 }
 
 // The report of one store.
-#[derive(Drop)]
+#[derive(Clone, Copy)]
 pub enum PacketReport {
     Report(StorageReport),
     Refused(PacketRefusal),

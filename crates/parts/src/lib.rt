@@ -1,5 +1,7 @@
 // Parts of a store of bytes: marked as not heard, filled from the front, lent to be read. Each is lent on as a part of the store, from its offset
 // to its offset plus its length, so that nothing outside it can be touched.
+#![tactic(auto)]
+
 ghost use Rattle.std.specs.Prelude.{◌≡◌, [], ◌++◌, ◌+◌, ◌≤◌, length, drop, replicate};
 ghost use Rattle.parts.specs.Bytes.{part_of, over, marked};
 

@@ -4,7 +4,7 @@ use journal::entry::{Broken, Entry};
 // So many calls a picture shows.
 pub const MOST: u32 = 1000;
 
-#[derive(Drop)]
+#[derive(Clone, Copy)]
 pub enum Ending {
     Whole,
     Broke(Broken),
@@ -12,7 +12,7 @@ pub enum Ending {
     GoesOn,
 }
 
-#[derive(Drop)]
+#[derive(Clone, Copy)]
 pub struct Counted {
     pub calls: u32,
     pub ending: Ending,

@@ -27,7 +27,7 @@ pub fn attribute_down(
 }
 
 // A place and an extent.
-#[derive(Drop)]
+#[derive(Clone, Copy)]
 pub struct Area {
     pub x: u32,
     pub y: u32,

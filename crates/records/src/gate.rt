@@ -10,7 +10,7 @@ use answers::Refusal;
 // The greatest count of records.
 pub const MAX_RECORDS: u32 = 1048576;
 
-#[derive(Drop)]
+#[derive(Clone, Copy)]
 pub enum Gate {
     Open,
     Shut(Refusal),

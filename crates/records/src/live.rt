@@ -7,6 +7,7 @@ use crate::nodes;
 use answers::Handle;
 
 // A record below the count that is marked live.
+#[tactic(auto, using(crate::proofs::Liveness::live_if_marked, crate::proofs::Liveness::idle_if_not_marked, crate::proofs::Liveness::idle_beyond))]
 pub fn is_live(nodes: &[u32], max_allocs: u32, node: Handle) -> bool
     requires { HasRoom max_allocs nodes.now }
     ensures { result ≡ is_live nodes.now max_allocs node.0 }

@@ -1,6 +1,6 @@
 // Words of a record in `nodes`, eight to a record.
 ghost use Rattle.std.specs.Prelude.{◌≡◌, ◌<◌};
-ghost use Rattle.tables.specs.Layout.{word as word_of, put as Put-of, put_link};
+ghost use Rattle.tables.specs.Layout.{word as word_of, put as put_of, put_link};
 ghost use Rattle.records.specs.InWords.{HasRoom, InTable};
 
 use answers::Handle;
@@ -35,7 +35,7 @@ pub fn word(nodes: &[u32], node: Handle, k: usize) -> u32
 pub fn put(nodes: &mut [u32], node: Handle, k: usize, v: u32)
     requires in_table { InTable node.0 nodes.old }
     requires k_bound { k < 8 }
-    ensures { nodes.new ≡ Put-of node.0 k v nodes.old }
+    ensures { nodes.new ≡ put_of node.0 k v nodes.old }
 {
     nodes[8 * (node.0 as usize) + k] = v;
 }

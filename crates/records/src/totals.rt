@@ -6,7 +6,7 @@ ghost use Rattle.std.specs.Prelude.{◌≡◌, ◌≤◌};
 ghost use Rattle.records.specs.InWords.{zero_totals, blank_totals, with_size, with_count, with_free_storage, with_free_offset, with_top_bits};
 ghost use Rattle.records.specs.InWords.{in_array, of_array, put_back};
 
-#[derive(Drop)]
+#[derive(Clone, Copy)]
 pub struct Totals {
     pub size: u32,
     pub max_allocs: u32,

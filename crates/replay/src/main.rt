@@ -1,6 +1,8 @@
 // Replays the journal on standard input, on tables for 1,024 records, and prints a line for each call: the refusal's number or 0, then a granted take's
 // offset and record. A record that cannot be read is a last line, 13, 14 or 15. What a line says is proved in journal_text, what a call answers in
 // replaying; here bytes come in and lines go out.
+#![tactic(auto)]
+
 mod progress;
 
 use calls::Answer;
@@ -10,7 +12,7 @@ use records::totals::Totals;
 use replaying::Outcome;
 
 // Where the journal is read next, the store's scalars, and how many bytes wait to be written; whether it goes on.
-#[derive(Drop)]
+#[derive(Clone, Copy)]
 struct Replay {
     window: Window,
     totals: Totals,
@@ -78,6 +80,7 @@ fn turn(
 
 // The journal to its end. A proved loop has to end, and nothing says that the input does: so records are counted, up to a number that no run reaches.
 fn run(
+    shown: bool,
     buffer: &mut [u8; 262144],
     out: &mut [u8; 65536],
     nodes: &mut [u32; 8192],
@@ -85,7 +88,6 @@ fn run(
 ) {
     let mut bin_indices = [0u32; 256];
     let mut used_bins = [0u8; 32];
-    let shown = progress::is_shown();
     let mut replay = Replay {
         window: Window::new(),
         totals: Totals::zeros(),
@@ -112,10 +114,11 @@ fn run(
     }
 }
 
-fn main() {
+fn main(rt: HostRuntime) {
+    let shown = progress::is_shown(rt.stderr());
     let mut buffer = [0u8; 262144];
     let mut out = [0u8; 65536];
     let mut nodes = [0u32; 8192];
     let mut free_nodes = [0u32; 1024];
-    run(&mut buffer, &mut out, &mut nodes, &mut free_nodes);
+    run(shown, &mut buffer, &mut out, &mut nodes, &mut free_nodes);
 }

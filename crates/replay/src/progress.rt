@@ -1,10 +1,12 @@
 // How far a long replay is, on standard error if that is a terminal.
-use libc::STDERR_FILENO;
+use std::io::IsTerminal;
+use std::rt::Stderr;
+use streams::STDERR_FILENO;
 
 const EVERY: u64 = 1048576;
 
-pub fn is_shown() -> bool {
-    libc::isatty(STDERR_FILENO) == 1
+pub fn is_shown(stderr: Stderr) -> bool {
+    stderr.is_terminal()
 }
 
 pub fn show(shown: bool, calls: u64) {

@@ -41,7 +41,7 @@ use Rattle.replaying.proofs.Stepping.{found}
 -- ---- the answers of the calls that a journal has
 data Plain : ledger.Answer → Type 0 where
   grants : (o r : ℕ) → Plain (granted o r)
-  is_done_lem : Plain done
+  says_done : Plain done
   refuses : (k : ℕ) → Plain (refused k)
 
 past_gate : {Lent : Type 0} (k : ℕ) (lent : Lent) (outcome : ledger.Answer × Lent) → Plain outcome.0 → Plain (gated k lent outcome).0
@@ -58,12 +58,12 @@ take_plain E w s (take_words.split c r o rest m) = grants o r
 back_plain : (E : Edition) (w : Words) (r : ℕ) (plan : BackPlan) → Plain (do_back E w r plan).0
 unfolding do_back
 back_plain E w r (back-words.stop k) = refuses k
-back_plain E w r (back-words.merge p x p_free x_free m) = is_done_lem
+back_plain E w r (back-words.merge p x p_free x_free m) = says_done
 
 -- ---- each is one of the code's, if its number is
 said : (a : ledger.Answer) → Plain a → ((k : ℕ) → a ≡ refused k → (why : Refusal) × (number_of why ≡ k)) → (b : Answer) × (says b ≡ a)
 said a (grants o r) h = (answer.Granted record { offset = o; metadata = record { 0 = r } }, refl)
-said a is_done_lem h = (answer.Done, refl)
+said a says_done h = (answer.Done, refl)
 said a (refuses k) h = let why = h k refl in (answer.Refused why.0, ap refused why.1)
 
 of_take : (k : ℕ) → OneOf (6 ∷ 2 ∷ 3 ∷ 4 ∷ 6 ∷ []) k → (why : Refusal) × (number_of why ≡ k)
@@ -72,6 +72,7 @@ of_take k (inr (inl e)) = (TableTooShort, sym e)
 of_take k (inr (inr (inl e))) = (NoSpareRecord, sym e)
 of_take k (inr (inr (inr (inl e)))) = (NoRegion, sym e)
 of_take k (inr (inr (inr (inr (inl e))))) = (Unsound, sym e)
+of_take k (inr (inr (inr (inr (inr x5))))) = elim x5 [ ]
 
 of_back : (k : ℕ) → OneOf (6 ∷ 2 ∷ 5 ∷ 8 ∷ 6 ∷ []) k → (why : Refusal) × (number_of why ≡ k)
 of_back k (inl e) = (Unsound, sym e)
@@ -79,14 +80,17 @@ of_back k (inr (inl e)) = (TableTooShort, sym e)
 of_back k (inr (inr (inl e))) = (NotLive, sym e)
 of_back k (inr (inr (inr (inl e)))) = (StartsElsewhere, sym e)
 of_back k (inr (inr (inr (inr (inl e))))) = (Unsound, sym e)
+of_back k (inr (inr (inr (inr (inr x5))))) = elim x5 [ ]
 
 of_reset : (k : ℕ) → OneOf (6 ∷ 2 ∷ []) k → (why : Refusal) × (number_of why ≡ k)
 of_reset k (inl e) = (Unsound, sym e)
 of_reset k (inr (inl e)) = (TableTooShort, sym e)
+of_reset k (inr (inr x'')) = elim x'' [ ]
 
 of_setup : (k : ℕ) → OneOf (1 ∷ 2 ∷ []) k → (why : Refusal) × (number_of why ≡ k)
 of_setup k (inl e) = (BadCount, sym e)
 of_setup k (inr (inl e)) = (TableTooShort, sym e)
+of_setup k (inr (inr x'')) = elim x'' [ ]
 
 -- ---- so each call is made
 makes_take : (n : ℕ) (w : Words) → (a : Answer) × (v : Words) × Promise edition32 (ledger-calls.takes n) w v (says a)
@@ -97,9 +101,9 @@ makes_take n w =
     let b = said (answer_words edition32 c w).0 is_plain (λ k e. of_take k ((tables.claims edition32).numbers c w k e)) in
     (b.0, (answer_words edition32 c w).1, said_so b.1 ((promise_means edition32).every_call c w))
 
-makes_back : (o r : ℕ) (w : Words) → (a : Answer) × (v : Words) × Promise edition32 (ledger-calls.hands_back_lem o r) w v (says a)
+makes_back : (o r : ℕ) (w : Words) → (a : Answer) × (v : Words) × Promise edition32 (ledger-calls.gives_back o r) w v (says a)
 makes_back o r w =
-    let c : ledger-calls.Call = ledger-calls.hands_back_lem o r in
+    let c : ledger-calls.Call = ledger-calls.gives_back o r in
     let is_plain : Plain (answer_words edition32 c w).0 =
     unfold answer_words in unfold behind in
     past_gate (gate_of edition32 w) w (behind edition32 c w) (back_plain edition32 w r (plan_back w (ledger-calls.span_of o r))) in
@@ -110,7 +114,7 @@ makes_reset : (w : Words) → (a : Answer) × (v : Words) × Promise edition32 l
 makes_reset w =
     let c : ledger-calls.Call = ledger-calls.Reset in
     let is_plain : Plain (answer_words edition32 c w).0 =
-    unfold answer_words in unfold behind in past_gate (gate_of edition32 w) w (behind edition32 c w) is_done_lem in
+    unfold answer_words in unfold behind in past_gate (gate_of edition32 w) w (behind edition32 c w) says_done in
     let b = said (answer_words edition32 c w).0 is_plain (λ k e. of_reset k ((tables.claims edition32).numbers c w k e)) in
     (b.0, (answer_words edition32 c w).1, said_so b.1 ((promise_means edition32).every_call c w))
 
@@ -120,7 +124,7 @@ makes_setup size count lent small =
     let is_plain : Plain (setup_words edition32 size count lent).0 =
     unfold setup_words in
     past_gate (setup_gate edition32 size count (length lent.nodes) (length lent.pile)) (zeros lent)
-    (done, fresh edition32 size count lent.nodes lent.pile) is_done_lem in
+    (done, fresh edition32 size count lent.nodes lent.pile) says_done in
     let b = said (setup_words edition32 size count lent).0 is_plain (λ k e. of_setup k (base_demands.setup_numbered
     (subst (SetupPromise edition32 size count lent (setup_words edition32 size count lent).1) e p))) in
     (b.0, (setup_words edition32 size count lent).1, setup_said_so b.1 p)

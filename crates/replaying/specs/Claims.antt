@@ -27,7 +27,7 @@ use Rattle.replaying.specs.Replays.{Replays, StandsFor}
 -- a call of a journal as the demands' runs have it
 abbrev pub in_run : Call → Asked
 in_run (Take size) = Calling (ledger-calls.takes size.0)
-in_run (HandBack span) = Calling (ledger-calls.hands_back_lem span.offset span.metadata.0)
+in_run (HandBack span) = Calling (ledger-calls.gives_back span.offset span.metadata.0)
 in_run (SetUp size count) = SettingUp size.0 count
 in_run Reset = Calling ledger-calls.Reset
 

@@ -32,7 +32,7 @@ module _ (E : Edition) (nodes pile : ℕ) where
   unfoldable pub meant : Call → Standing → Answer × Standing
   unfolding asked begun setup_gate
   meant (Take size) s = asked (ledger.takes size.0) s
-  meant (HandBack span) s = asked (ledger.hands_back_lem span.offset span.metadata.0) s
+  meant (HandBack span) s = asked (ledger.gives_back span.offset span.metadata.0) s
   meant (SetUp size count) s = begun (setup_gate E size.0 count nodes pile) size.0 count s
   meant Reset s = asked ledger.Reset s
 

@@ -10,8 +10,8 @@ use Rattle.replaying.specs.Meaning.{no_store, answers_of}
 abbrev pub takes : ℕ → Call
 takes s = Take record { 0 = s }
 
-abbrev pub hands_back_lem : (o r : ℕ) → Call
-hands_back_lem o r = HandBack record { offset = o; metadata = record { 0 = r } }
+abbrev pub gives_back : (o r : ℕ) → Call
+gives_back o r = HandBack record { offset = o; metadata = record { 0 = r } }
 
 abbrev pub sets_up : (size count : ℕ) → Call
 sets_up size count = SetUp record { 0 = size } count
@@ -27,10 +27,10 @@ pub record MeaningRows : Type 0 where
   -- "The example prints three lines: 0, then 0 0 0, then 0."
   pub example : Answering example_calls (done ∷ granted 0 0 ∷ done ∷ [])
   -- "calls before any setup"
-  pub before_any : Answering (takes 1 ∷ hands_back_lem 0 0 ∷ Reset ∷ []) (refused 6 ∷ refused 6 ∷ refused 6 ∷ [])
+  pub before_any : Answering (takes 1 ∷ gives_back 0 0 ∷ Reset ∷ []) (refused 6 ∷ refused 6 ∷ refused 6 ∷ [])
   -- "or after a refused one, get 6", whatever stood before it; until a setup is accepted
   pub after_refused : Answering
-      (sets_up 100 6 ∷ takes 20 ∷ sets_up 100 1 ∷ takes 1 ∷ hands_back_lem 0 0 ∷ Reset ∷ sets_up 100 6 ∷ takes 1 ∷ [])
+      (sets_up 100 6 ∷ takes 20 ∷ sets_up 100 1 ∷ takes 1 ∷ gives_back 0 0 ∷ Reset ∷ sets_up 100 6 ∷ takes 1 ∷ [])
       (done ∷ granted 0 0 ∷ refused 1 ∷ refused 6 ∷ refused 6 ∷ refused 6 ∷ done ∷ granted 0 0 ∷ [])
   -- "a larger good count gets 2"
   pub counts : Answering (sets_up 8 1 ∷ sets_up 8 2 ∷ sets_up 8 1024 ∷ sets_up 8 1025 ∷ sets_up 8 131072 ∷ sets_up 8 131073 ∷ sets_up 8 1048576
@@ -38,11 +38,11 @@ pub record MeaningRows : Type 0 where
       (refused 1 ∷ done ∷ done ∷ refused 2 ∷ refused 2 ∷ refused 2 ∷ refused 2 ∷ refused 1 ∷ [])
   -- document 01's run to follow, and a reset behind it
   pub run_to_follow : Answering
-      (sets_up 100 6 ∷ takes 20 ∷ takes 30 ∷ takes 49 ∷ takes 48 ∷ hands_back_lem 20 1 ∷ hands_back_lem 20 1 ∷ takes 0 ∷ takes 1
-      ∷ hands_back_lem 0 0 ∷ hands_back_lem 98 3 ∷ hands_back_lem 50 2 ∷ Reset ∷ takes 20 ∷ [])
+      (sets_up 100 6 ∷ takes 20 ∷ takes 30 ∷ takes 49 ∷ takes 48 ∷ gives_back 20 1 ∷ gives_back 20 1 ∷ takes 0 ∷ takes 1
+      ∷ gives_back 0 0 ∷ gives_back 98 3 ∷ gives_back 50 2 ∷ Reset ∷ takes 20 ∷ [])
       (done ∷ granted 0 0 ∷ granted 20 1 ∷ refused 4 ∷ granted 50 2 ∷ done ∷ refused 5 ∷ granted 98 3 ∷ refused 3
       ∷ done ∷ done ∷ done ∷ done ∷ granted 0 0 ∷ [])
   -- "the record is live but starts elsewhere": 8, after 5, and the span is still out
   pub elsewhere : Answering
-      (sets_up 100 6 ∷ takes 20 ∷ takes 30 ∷ hands_back_lem 0 1 ∷ hands_back_lem 30 1 ∷ hands_back_lem 20 2 ∷ hands_back_lem 20 1 ∷ hands_back_lem 20 1 ∷ [])
+      (sets_up 100 6 ∷ takes 20 ∷ takes 30 ∷ gives_back 0 1 ∷ gives_back 30 1 ∷ gives_back 20 2 ∷ gives_back 20 1 ∷ gives_back 20 1 ∷ [])
       (done ∷ granted 0 0 ∷ granted 20 1 ∷ refused 8 ∷ refused 8 ∷ refused 5 ∷ done ∷ refused 5 ∷ [])

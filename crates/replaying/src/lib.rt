@@ -1,4 +1,6 @@
 // A journal replayed, a record at a time: what stands at a place is read, and a call is made on lent tables.
+#![tactic(auto)]
+
 ghost use Rattle.tables.specs.Calls.{edition32};
 ghost use Rattle.records.specs.InWords.{words_of};
 ghost use Rattle.journal.specs.Reading.{read_at};
@@ -8,7 +10,7 @@ use calls::Answer;
 use journal::entry::{Broken, Entry};
 use records::totals::Totals;
 
-#[derive(Drop)]
+#[derive(Clone, Copy)]
 pub enum Outcome {
     // the answer of the call that stood there, and the place of the next record
     Answered(Answer, usize),
@@ -19,7 +21,7 @@ pub enum Outcome {
 }
 
 // What came of it, and the head's scalars after it.
-#[derive(Drop)]
+#[derive(Clone, Copy)]
 pub struct Stepped {
     pub outcome: Outcome,
     pub totals: Totals,

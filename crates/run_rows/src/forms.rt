@@ -5,7 +5,7 @@ ghost use Rattle.run_rows.specs.Forms.{in_place, by_value, verdict_of};
 use call_values::call::Call;
 use oracle_lists::tally::Verdict;
 
-#[derive(Drop)]
+#[derive(Clone, Copy)]
 pub enum Forms {
     Both,
     InPlace,

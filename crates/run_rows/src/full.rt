@@ -18,6 +18,7 @@ pub fn classes_after(row: Reader, classes: u32) -> u32
 }
 
 // So a class that the list leaves out shows at the report's last row.
+#[tactic(auto, using(crate::proofs::WholeReports::counted, crate::proofs::WholeReports::miscounted, crate::proofs::WholeReports::of_other_letter))]
 pub fn whole_report(row: Reader, classes: u32, verdict: Verdict) -> Verdict
     ensures { result ≡ whole_report row classes verdict }
 {

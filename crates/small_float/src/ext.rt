@@ -2,7 +2,7 @@
 ghost use Rattle.small_float.specs.Smallest.{SmallestStore};
 
 // The store's size, or refusal 7 for an object that no store serves.
-#[derive(Drop)]
+#[derive(Clone, Copy)]
 pub enum Smallest {
     Store(crate::Size),
     TooLarge,

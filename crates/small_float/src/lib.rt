@@ -1,5 +1,7 @@
 // Size classes: small_float.rs of the Rust, and ext.rs in the module ext.
 // A class is a small float of a size: three bits of mantissa under an exponent, so that the classes of one exponent are evenly spaced.
+#![tactic(auto)]
+
 ghost use Rattle.std.specs.Prelude.{◌≡◌, ◌-◌, ◌*◌, ◌/◌, ◌^◌, ◌≤◌, ◌<◌, min};
 ghost use Rattle.small_float.specs.Class.{grain, down, value, classes_in_use, rounded_up};
 ghost use Rattle.small_float.specs.RoundedUp.{rounded_to};
@@ -7,14 +9,14 @@ ghost use Rattle.small_float.specs.RoundedUp.{rounded_to};
 pub mod ext;
 
 // A size in units of the store, and the number of a class. They are two types, so that one cannot stand for the other.
-#[derive(Drop)]
+#[derive(Clone, Copy)]
 pub struct Size(pub u32);
 
-#[derive(Drop)]
+#[derive(Clone, Copy)]
 pub struct Class(pub u32);
 
 // What a size is rounded up to. The greatest sizes have no class: a region of the next one would be of 2^32 units or more, and no store is.
-#[derive(Drop)]
+#[derive(Clone, Copy)]
 pub enum RoundedUp {
     To(Class),
     NoClass,
@@ -43,6 +45,7 @@ fn grain_of(size: u32) -> u32
 // The class of a size, rounded up: every size of this class or a higher one, rounded down, is at least as large.
 // The one branch asks whether there is a class. The sums, here and in the next, have none: a size from 8 on holds 8 to 15 steps of 2^g, and a lower one,
 // whose steps are single units, fewer.
+#[tactic(auto, using(crate::proofs::Rounding::rounded_to_none))]
 pub fn uint_to_float_round_up(size: Size) -> RoundedUp
     ensures { rounded_to result ≡ rounded_up size.0 }
 {
@@ -66,7 +69,7 @@ pub fn uint_to_float_round_down(size: Size) -> Class
 }
 
 // A class in parts: so many steps, each of 2^grain units.
-#[derive(Drop)]
+#[derive(Clone, Copy)]
 struct Steps {
     count: u32,
     grain: u32,

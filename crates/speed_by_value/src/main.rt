@@ -4,9 +4,11 @@
 //   v RUN SIZE RECORDS CALLS          a run by value (`driving/src/progress.rt`)
 //
 // The oracle's `speed RUN SIZE RECORDS CALLS` does the same with the Rust, and prints the same two lines. docs/SPEED.md has the figures.
+#![tactic(auto)]
+
 use driving::{by_value, rows};
-use libc::STDOUT_FILENO;
 use oracle_lists::rows::Reader;
+use streams::STDOUT_FILENO;
 
 fn answer(row: Reader) {
     if !row.is_whole() {

@@ -7,16 +7,18 @@
 // Printed are the run's two lines, which the oracle's `speed RUN SIZE RECORDS CALLS` prints of the Rust, and `sound` if the last audit said yes.
 // With up to 1,024 records any stack will do. With more, up to 1,048,576, it must hold 48 MiB of tables, and as many for each time again; tools/growth
 // asks for a stack that holds them once.
+#![tactic(auto)]
+
 use driving::rows::Plan;
 use driving::{again, in_place, rows};
-use libc::STDOUT_FILENO;
 use oracle_lists::rows::Reader;
 use records::totals::Totals;
+use streams::STDOUT_FILENO;
 
 const FEW: u32 = 1024;
 
 // What a pair of rows asks for; without a pair nothing is done.
-#[derive(Drop)]
+#[derive(Clone, Copy)]
 struct Work {
     pair: bool,
     again: u32,
@@ -141,7 +143,8 @@ fn lend_many(
     work_on(work, nodes, free_nodes, out, scratch);
 }
 
-// It calls itself, so the compiler does not put it into its caller, where these tables would be on the stack with few records too.
+// It calls itself and is not to be put into its caller, where these tables would be on the stack with few records too.
+#[inline(never)]
 fn on_many(work: Work, again: u32) {
     let mut nodes = [0u32; 8388608];
     let mut free_nodes = [0u32; 1048576];

@@ -4,9 +4,11 @@
 //   p RUN SIZE RECORDS CALLS          a run in place (`driving/src/progress.rt`)
 //
 // The oracle's `speed RUN SIZE RECORDS CALLS` does the same with the Rust, and prints the same two lines. docs/SPEED.md has the figures.
+#![tactic(auto)]
+
 use driving::{in_place, rows};
-use libc::STDOUT_FILENO;
 use oracle_lists::rows::Reader;
+use streams::STDOUT_FILENO;
 
 fn answer(row: Reader) {
     if !row.is_whole() {

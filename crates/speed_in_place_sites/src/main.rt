@@ -5,11 +5,13 @@
 //   a SETUPS AUDITS                   so many setups with 131,072 records, then so many audits
 //
 // docs/SPEED.md has the figures.
+#![tactic(auto)]
+
 mod audits;
 
 use driving::{in_place, rows};
-use libc::STDOUT_FILENO;
 use oracle_lists::rows::Reader;
+use streams::STDOUT_FILENO;
 
 fn answer(row: Reader) {
     if !row.is_whole() {

@@ -9,14 +9,14 @@ use records::totals::Totals;
 use replaying::Outcome;
 use small_float::Size;
 
-#[derive(Drop)]
+#[derive(Clone, Copy)]
 struct State {
     totals: Totals,
     draws: Draws,
     at: usize,
 }
 
-#[derive(Drop)]
+#[derive(Clone, Copy)]
 struct Made {
     answer: Answer,
     totals: Totals,

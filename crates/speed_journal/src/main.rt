@@ -4,11 +4,13 @@
 //   p RUN SIZE RECORDS CALLS          a run in place (`driving/src/progress.rt`)
 //
 // What is printed is the same as of the bare calls. docs/SPEED.md has the figures.
+#![tactic(auto)]
+
 mod journaled;
 
 use driving::rows;
-use libc::STDOUT_FILENO;
 use oracle_lists::rows::Reader;
+use streams::STDOUT_FILENO;
 
 fn answer(row: Reader) {
     if !row.is_whole() {

@@ -5,11 +5,13 @@
 //   o SIZE RECORDS LENGTH HANDLE      one take and one return, in a store of 8 records at most
 //
 // docs/SPEED.md has the figures.
+#![tactic(auto)]
+
 mod once;
 
 use driving::{lent, rows};
-use libc::STDOUT_FILENO;
 use oracle_lists::rows::Reader;
+use streams::STDOUT_FILENO;
 
 fn answer(row: Reader) {
     if !row.is_whole() {

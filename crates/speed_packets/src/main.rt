@@ -6,12 +6,14 @@
 //   f LENGTH TURNS      a packet filled with so many bytes, but for the first turn, which takes it
 //
 // What is printed is the kind, and what the last turn left in the first byte of the store. A length is at most 1,024. docs/SPEED.md has the figures.
+#![tactic(auto)]
+
 mod bare;
 mod packed;
 
 use driving::rows;
-use libc::STDOUT_FILENO;
 use oracle_lists::rows::Reader;
+use streams::STDOUT_FILENO;
 
 // The kind, and the byte.
 fn told(kind: &[u8], byte: u8) {

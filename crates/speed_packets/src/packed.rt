@@ -6,7 +6,7 @@ use records::totals::Totals;
 use small_float::Size;
 
 // The scalars of both heads, and the packet that is out, if one is.
-#[derive(Drop)]
+#[derive(Clone, Copy)]
 struct Desk {
     on_chip: Totals,
     external: Totals,
@@ -14,7 +14,7 @@ struct Desk {
     out: bool,
 }
 
-#[derive(Drop)]
+#[derive(Clone, Copy)]
 enum Turn {
     Take(Size),
     Back,

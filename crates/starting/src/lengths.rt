@@ -5,7 +5,7 @@ ghost use Rattle.starting.specs.Lengths.{LengthsFor};
 use answers::Refusal;
 use records::gate;
 
-#[derive(Drop)]
+#[derive(Clone, Copy)]
 pub struct Lengths {
     pub nodes: usize,
     pub free_nodes: usize,
@@ -13,7 +13,7 @@ pub struct Lengths {
 }
 
 // Refused is a count that setup refuses, with its number.
-#[derive(Drop)]
+#[derive(Clone, Copy)]
 pub enum LengthsAnswer {
     Needed(Lengths),
     Refused(Refusal),

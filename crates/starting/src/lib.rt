@@ -1,4 +1,6 @@
 // Setup and reset: `with_max_allocs`, `new` and `reset` of the Rust, in place.
+#![tactic(auto)]
+
 ghost use Rattle.std.specs.Prelude.{◌≡◌, List, ℕ, ◌≤◌, length};
 ghost use Rattle.ledger.specs.Ledger.{refused};
 ghost use Rattle.ledger.specs.Calls.{Reset};
@@ -19,7 +21,7 @@ use small_float::Size;
 
 pub mod lengths;
 
-#[derive(Drop)]
+#[derive(Clone, Copy)]
 pub struct Started {
     pub answer: StartAnswer,
     pub totals: Totals,

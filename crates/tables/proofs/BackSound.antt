@@ -5,17 +5,16 @@ use mathlib.Core.List.{List, [], ◌∷◌, ◌++◌, reverse, reverse_aux-eq}
 use Prim.Native.Nat.{ℕ, ◌+◌, ◌≤◌, ◌<◌}
 use native.Mathlib.Nat.{zero-add}
 use native.Mathlib.Omega.{arith}
-use lib.ListN.{length, length-append}
+use lib.ListN.{length-append}
 use borrow.Author.Tests.{lt-ltb, le-ltb, eq-eqb, ne_eqb}
 use Rattle.basics.specs.Sum.{one, is, tally}
 use Rattle.basics.proofs.Sums.{tally_le, tally_reverse_aux}
 use Rattle.small_float.proofs.Rounding.{down_most}
-use Rattle.ledger.specs.Ledger.{Ledger, Region, live, free, len, free_len, stands, Answer, done, length_is, by_class, Stacks}
+use Rattle.ledger.specs.Ledger.{Ledger, Region, live, free, len, free_len, stands, Answer, done, by_class, Stacks}
 use Rattle.ledger.specs.Ledger.{merge, Side, beside}
 use Rattle.ledger.specs.Calls.{Token, HandBack, hands_back, answer}
 use Rattle.ledger.specs.WellFormed.{WellFormed, has}
 use Rattle.ledger.proofs.Places.{Between, sum_at}
-use Rattle.ledger.proofs.Find.{at}
 use Rattle.ledger.proofs.KeptStacks.{stands_le, side_stands}
 use Rattle.ledger.proofs.Records.{all_records}
 use Rattle.ledger.proofs.Cases.{LiveCase, is_live_case, is_elsewhere, not_live, live_case}

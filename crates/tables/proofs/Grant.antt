@@ -81,7 +81,7 @@ module _ (K : Bounds) (w : Words) (xs ys : List Region) (n r s : ℕ) (stacks : 
   )
 
   chain' : (p : ℕ) (zs : List ℕ) (y : ℕ) → Chain w.nodes p zs y → Chain v.nodes p zs y
-  chain' p zs y = chain_kept w.nodes v.nodes p zs y (λ q _. L.join_Kept q)
+  chain' p zs y = chain_kept w.nodes v.nodes p zs y (λ q _. L.join_kept q)
 
   dead' : (q : ℕ) → In q spare → word v.nodes used q ≡ 0
   dead' q g = (L.region_kept q (spare_not_r q g)).used_kept ∙ S.dead q g

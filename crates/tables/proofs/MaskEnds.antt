@@ -2,7 +2,7 @@
 use mathlib.Core.Bool.{cond}
 use mathlib.Core.Path.{◌≡◌, refl, ap, sym, ◌∙◌, subst}
 use Prim.Native.Nat.{ℕ, zero, suc, ◌+◌, ◌*◌, ◌-◌, ◌/◌, ◌%◌, ◌^◌, ◌≤◌, ◌<◌}
-use native.Mathlib.Nat.{div_one, div-eq_of_lt, pow-suc}
+use native.Mathlib.Nat.{div-one, div-eq_of_lt, pow-suc}
 use native.Mathlib.Omega.{arith}
 use lib.Dec.{eqb}
 use lib.Pow.{pow_pos, pow_mono, shr-shr}
@@ -58,7 +58,7 @@ mask_shift : (k j : ℕ) (f : ℕ → ℕ) → j ≤ k → Bit f → mask k f / 
 mask_shift k zero f l b =
     let all : k ≡ k - 0 = omega arith in
     let here : (i : ℕ) → i ≡ 0 + i = λ i. omega arith in
-    div_one (mask k f) ∙ ap (λ (n : ℕ). mask n f) all ∙ mask_same (k - 0) f (λ i. f (0 + i)) (λ i _. ap f (here i))
+    div-one (mask k f) ∙ ap (λ (n : ℕ). mask n f) all ∙ mask_same (k - 0) f (λ i. f (0 + i)) (λ i _. ap f (here i))
 mask_shift zero (suc j) f l b = absurd (omega arith)
 mask_shift (suc k) (suc j) f l b =
     halved ∙ mask_shift k j (λ i. f (suc i)) (omega arith) (λ i. b (suc i)) ∙ ap (λ (n : ℕ). mask n (λ i. f (suc (j + i)))) less

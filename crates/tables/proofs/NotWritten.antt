@@ -3,7 +3,7 @@ use mathlib.Core.Path.{refl, ◌∙◌}
 use mathlib.Core.Bool.{Bool, true, false}
 use Prim.Native.Nat.{ℕ, ◌+◌, ◌-◌, ◌≤◌, ◌<◌}
 use native.Mathlib.Omega.{arith}
-use lib.ListN.{length, length-set, length-replicate}
+use lib.ListN.{length-set, length-replicate}
 use lib.Seq.{get_or-set_other}
 use Rattle.basics.specs.Sum.{one}
 use Rattle.small_float.specs.Class.{down}
@@ -154,7 +154,7 @@ take_written E w s (TakePlan.stop k) g = nothing_written w.count w
 take_written E w s (whole c r o) g =
     total_kept w.count (w.free_storage - s) (granting_kept (bounds E w) w s c r g.record_low)
 take_written E w s (split c r o rest m) g =
-    total_kept w.count (w.free_storage - s) (splitting_kept (bounds E w) w s c r g.0.record_low o rest m g.1.Spare-low)
+    total_kept w.count (w.free_storage - s) (splitting_kept (bounds E w) w s c r g.0.record_low o rest m g.1.spare_low)
 
 -- ---- hand back
 drop_kept : (K : Bounds) (is_free : Bool) (q : ℕ) (w : Words) → w.free_offset + one is_free < K.n → KeptBeyond K.n w (drop_if K is_free q w)

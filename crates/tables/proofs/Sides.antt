@@ -77,7 +77,7 @@ module _ (E : Edition) (w : Words) (r n : ℕ) where
     G = subst (λ (zs : List Region). Gap (bounds E w) w zs after stacks spare r n) (reverse-cons x before) F
 
     reads_x : Reads w.nodes (0 + tally len (reverse before)) (x ∷ [])
-    reads_x = (reads_split w.nodes 0 (reverse before) (x ∷ []) G.reads_Before).1
+    reads_x = (reads_split w.nodes 0 (reverse before) (x ∷ []) G.reads_before).1
 
     chain_x : Chain w.nodes (last E.none (recs (reverse before))) (rec x ∷ []) G.a
     chain_x = (linked_split (word w.nodes neighbor_next) (word w.nodes neighbor_prev) E.none (recs (reverse before)) (rec x ∷ []) G.a

@@ -1,5 +1,5 @@
 -- The spare records in the words of the pile: the one on top, one that goes onto it, one that leaves it. Assumes nothing.
-use mathlib.Core.Path.{◌≡◌, refl, ap₂, ◌∙◌}
+use mathlib.Core.Path.{◌≡◌, refl, sym, subst, ap₂, ◌∙◌}
 use mathlib.Core.List.{List, ◌∷◌}
 use Prim.Native.Nat.{ℕ, zero, suc, ◌+◌, ◌-◌, ◌≤◌, ◌<◌}
 use native.Mathlib.Omega.{arith}
@@ -23,7 +23,7 @@ module _ (n off : ℕ) (pile spare : List ℕ) where
   pub pushed : (r : ℕ) → length spare < n → SparesStand n off pile spare → SparesStand n (off + 1) (set pile (off + 1) r) (r ∷ spare)
   pushed r l P = record {
     pile_room = rw length-set P.pile_room;
-    piled = rw P.spares (ap₂ {C = List ℕ} ◌∷◌
+    piled = subst (λ (i : ℕ). stack_of (set pile i r) (suc (length spare)) ≡ r ∷ spare) (sym P.spares) (ap₂ {C = List ℕ} ◌∷◌
         (get_or-set_same pile (length spare) r 0 (omega (arith, P.pile_room)))
         (stack_of_set pile (length spare) (length spare) r (omega arith) ∙ P.piled));
     spares = omega (arith, P.spares);

@@ -4,7 +4,7 @@ use Rattle.std.specs.Prelude.{◌≡◌, ◌↔◌, ◌⊎◌, ℕ, ◌^◌, ◌
 use Rattle.ledger.specs.Ledger.{Answer, granted, done, length_is, reported, refused}
 use Rattle.small_float.specs.Class.{greatest_served}
 use Rattle.ledger.specs.Calls.{Request, Token, Question, SizeOf, Report, FullReport, Fill, Call, Take, HandBack, Reset, Ask}
-use Rattle.ledger.specs.Calls.{takes, hands_back_lem, asks_size, answers, end}
+use Rattle.ledger.specs.Calls.{takes, gives_back, asks_size, answers, end}
 use Rattle.ledger.specs.RunToFollow.{the_calls, the_answers}
 use Rattle.tables.specs.Layout.{data_offset, data_size, bin_next, put, nodes_needed, pile_needed}
 use Rattle.tables.specs.Words.{Words, Edition, with_nodes, with_lists, with_total}
@@ -76,7 +76,7 @@ pub record NearlyRight : Type 0 where
   -- the old top's back link not written: of two regions of class 10 the lower is merged away first, and the class is then empty
   pub linked_back : answers (answer_words edition32)
       (takes 10 ∷ takes 10 ∷ takes 10 ∷ takes 10 ∷ takes 10 ∷ takes 10
-      ∷ hands_back_lem 0 0 ∷ hands_back_lem 20 2 ∷ hands_back_lem 10 1 ∷ hands_back_lem 40 4 ∷ takes 10 ∷ [])
+      ∷ gives_back 0 0 ∷ gives_back 20 2 ∷ gives_back 10 1 ∷ gives_back 40 4 ∷ takes 10 ∷ [])
       (desk 100 8)
       ≡ granted 0 0 ∷ granted 10 1 ∷ granted 20 2 ∷ granted 30 3 ∷ granted 40 4 ∷ granted 50 5
       ∷ done ∷ done ∷ done ∷ done ∷ granted 40 4 ∷ []
@@ -99,8 +99,8 @@ pub record Spoiled : Type 0 where
   -- a list that comes back to its own record
   pub around : answer_words edition32 (Ask FullReport) (spoiled bin_next 0) ≡ (refused 6, spoiled bin_next 0)
   -- a kept total that a span of 20, handed back, would take past the size; one less, and it does not
-  pub total_past : (answer_words edition32 (hands_back_lem 0 0) (with_total after_two 81)).0 ≡ refused 6
-  pub total_just : (answer_words edition32 (hands_back_lem 0 0) (with_total after_two 80)).0 ≡ done
+  pub total_past : (answer_words edition32 (gives_back 0 0) (with_total after_two 81)).0 ≡ refused 6
+  pub total_just : (answer_words edition32 (gives_back 0 0) (with_total after_two 80)).0 ≡ done
   -- nothing else is spoiled: with the word that belongs there, it is the fresh store, where neither call is refused
   pub right_size : spoiled data_size 100 ≡ desk 100 6
   pub right_offset : spoiled data_offset 0 ≡ desk 100 6
@@ -109,17 +109,17 @@ pub record Spoiled : Type 0 where
 -- ---- "Handle and offset must agree", on words, sound or not: 8, and the words as they came
 pub record PairsOnWords : Type 0 where
   -- record 1 lies at 20 and is 30 long
-  pub another's_offset : answer_words edition32 (hands_back_lem 0 1) after_two ≡ (refused 8, after_two)
-  pub its_length : answer_words edition32 (hands_back_lem 30 1) after_two ≡ (refused 8, after_two)
-  pub its_own : (answer_words edition32 (hands_back_lem 20 1) after_two).0 ≡ done
+  pub another's_offset : answer_words edition32 (gives_back 0 1) after_two ≡ (refused 8, after_two)
+  pub its_length : answer_words edition32 (gives_back 30 1) after_two ≡ (refused 8, after_two)
+  pub its_own : (answer_words edition32 (gives_back 20 1) after_two).0 ≡ done
   pub asked_elsewhere : answer_words edition32 (asks_size 0 1) after_two ≡ (refused 8, after_two)
   pub asked_there : answer_words edition32 (asks_size 20 1) after_two ≡ (length_is 30, after_two)
   -- record 2 is free and lies at 50, record 3 is spare, and there is no record 6: 5, whatever the offset
-  pub not_live : map (λ (c : Call). (answer_words edition32 c after_two).0) (hands_back_lem 50 2 ∷ hands_back_lem 0 2 ∷ hands_back_lem 7 3 ∷ hands_back_lem 0 6 ∷ [])
+  pub not_live : map (λ (c : Call). (answer_words edition32 c after_two).0) (gives_back 50 2 ∷ gives_back 0 2 ∷ gives_back 7 3 ∷ gives_back 0 6 ∷ [])
       ≡ refused 5 ∷ refused 5 ∷ refused 5 ∷ refused 5 ∷ []
   -- it is the word that counts: where record 0's is spoiled, its old offset no longer serves
   pub spoiled_offset : map (λ (c : Call). (answer_words edition32 c (with_nodes after_two (put 0 data_offset 9 after_two.nodes))).0)
-      (hands_back_lem 0 0 ∷ asks_size 0 0 ∷ asks_size 9 0 ∷ [])
+      (gives_back 0 0 ∷ asks_size 0 0 ∷ asks_size 9 0 ∷ [])
       ≡ refused 8 ∷ refused 8 ∷ length_is 20 ∷ []
 
 -- ---- the bits spoiled in a fresh store, whose one region is of class 36: bit 4 of leaf byte 4, under bit 4 of the top word

@@ -3,7 +3,7 @@ use Rattle.std.specs.Prelude.{◌≡◌, Bool, ℕ, ◌+◌, ◌≤◌, ◌<◌}
 use Rattle.basics.specs.Sum.{one}
 use Rattle.ledger.specs.Calls.{Token}
 use Rattle.tables.specs.Words.{Words}
-use Rattle.tables.specs.Take.{TakePlan, stop, whole, split, plan_take}
+use Rattle.tables.specs.Take.{TakePlan, whole, split, plan_take}
 use Rattle.tables.specs.HandBack.{BackPlan, merge, Merged, plan_back}
 
 -- a region of class c and record r, at offset o, is to be granted for s units

@@ -10,7 +10,7 @@ use Rattle.tables.specs.Calls.{edition32}
 use Rattle.tables.specs.Sound.{Sound}
 use Rattle.tables.specs.Examples.{after_two, edition99}
 
--- the ledger of Examples' afterTwo: live regions of 20 and 30 under records 0 and 1, a free one of 50 under record 2, and 3, 4 and 5 spare
+-- the ledger of Examples' after_two: live regions of 20 and 30 under records 0 and 1, a free one of 50 under record 2, and 3, 4 and 5 spare
 unfoldable pub of_two : Ledger Stacks
 unfolding end answer
 of_two = end (answer by_class 100 6) (takes 20 ∷ takes 30 ∷ []) (setup by_class 100 6)

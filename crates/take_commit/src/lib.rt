@@ -1,6 +1,8 @@
 // The writes of a take, which cannot fail.
 //
 // Private to the allocator, though Rattle has no word for that: what is required here the gate and the plan have tested.
+#![tactic(auto)]
+
 ghost use Rattle.std.specs.Prelude.{◌≡◌, ℕ, ◌-◌, List, []};
 ghost use Rattle.tables.specs.Words.{with_total};
 ghost use Rattle.tables.specs.Take.{granting, splitting};

@@ -29,12 +29,18 @@ spare n h = ne_eqb n 0 (λ e. absurd (omega (arith, e, h)))
 -- what was found, from what the code was told
 none_told : (f : Found) → Tells f NoClass → f ≡ no_class
 none_told no_class t = refl
+none_told (class_is c) t = elim t [ ]
+none_told bad_bits t = elim t [ ]
 
 bits_told : (f : Found) → Tells f BadBits → f ≡ bad_bits
 bits_told bad_bits t = refl
+bits_told (class_is c) t = elim t [ ]
+bits_told no_class t = elim t [ ]
 
 class_told : (f : Found) (c : Class) → Tells f (Lowest c) → (f ≡ class_is c.0) × (c.0 < 256)
 class_told (class_is k) c t = (ap class_is (sym t.0), t.1)
+class_told no_class c t = elim t [ ]
+class_told bad_bits c t = elim t [ ]
 
 -- where it goes on, the class is one of the head's
 pub class_low : (f : Found) (spares : ℕ) (found : Search) (sought : Sought) {c : Class} → Tells f found → Seeks spares found sought
@@ -54,6 +60,10 @@ module _ (w : Words) (s : ℕ) (found : Search) (sought : Sought)
   by_number NoSpareRecord h = rw (eq-eqb _ _ h)
   by_number NoRegion h = rw (spare _ h.0, none_told (find_for w.used_bins w.used_bins_top (rounded_up s)) (told_as_lem h.1))
   by_number Unsound h = rw (spare _ h.0, bits_told (find_for w.used_bins w.used_bins_top (rounded_up s)) (told_as_lem h.1))
+  by_number Rattle.answers.specs.declared.Refusal.TheVariants.BadCount h = elim h [ ]
+  by_number Rattle.answers.specs.declared.Refusal.TheVariants.TableTooShort h = elim h [ ]
+  by_number Rattle.answers.specs.declared.Refusal.TheVariants.NotLive h = elim h [ ]
+  by_number Rattle.answers.specs.declared.Refusal.TheVariants.StartsElsewhere h = elim h [ ]
 
   pub stopped_plan : {why : Refusal} → sought ≡ Stop why → stop (number_of why) ≡ plan_take w s
   stopped_plan {why} e = by_number why (subst (λ (x : Sought). Seeks w.free_offset found x) e seeks)
@@ -110,6 +120,26 @@ one_outcome n f (Stop Unsound) (In c) p q = absurd (omega (arith, ap tag (sym p.
 one_outcome n f (Stop Unsound) (Stop NoSpareRecord) p q = absurd (omega (arith, p.0, q))
 one_outcome n f (Stop Unsound) (Stop NoRegion) p q = absurd (omega (arith, ap tag (sym p.1 ∙ q.1)))
 one_outcome n f (Stop Unsound) (Stop Unsound) p q = refl
+one_outcome n f (Stop Rattle.answers.specs.declared.Refusal.TheVariants.BadCount) t p q = elim p [ ]
+one_outcome n f (Stop Rattle.answers.specs.declared.Refusal.TheVariants.TableTooShort) t p q = elim p [ ]
+one_outcome n f (Stop NoSpareRecord) (Stop Rattle.answers.specs.declared.Refusal.TheVariants.BadCount) p q = elim q [ ]
+one_outcome n f (Stop NoSpareRecord) (Stop Rattle.answers.specs.declared.Refusal.TheVariants.TableTooShort) p q = elim q [ ]
+one_outcome n f (Stop NoSpareRecord) (Stop Rattle.answers.specs.declared.Refusal.TheVariants.NotLive) p q = elim q [ ]
+one_outcome n f (Stop NoSpareRecord) (Stop Rattle.answers.specs.declared.Refusal.TheVariants.StartsElsewhere) p q = elim q [ ]
+one_outcome n f (Stop NoRegion) (Stop Rattle.answers.specs.declared.Refusal.TheVariants.BadCount) p q = elim q [ ]
+one_outcome n f (Stop NoRegion) (Stop Rattle.answers.specs.declared.Refusal.TheVariants.TableTooShort) p q = elim q [ ]
+one_outcome n f (Stop NoRegion) (Stop Rattle.answers.specs.declared.Refusal.TheVariants.NotLive) p q = elim q [ ]
+one_outcome n f (Stop NoRegion) (Stop Rattle.answers.specs.declared.Refusal.TheVariants.StartsElsewhere) p q = elim q [ ]
+one_outcome n f (Stop Rattle.answers.specs.declared.Refusal.TheVariants.NotLive) t p q = elim p [ ]
+one_outcome n f (Stop Unsound) (Stop Rattle.answers.specs.declared.Refusal.TheVariants.BadCount) p q = elim q [ ]
+one_outcome n f (Stop Unsound) (Stop Rattle.answers.specs.declared.Refusal.TheVariants.TableTooShort) p q = elim q [ ]
+one_outcome n f (Stop Unsound) (Stop Rattle.answers.specs.declared.Refusal.TheVariants.NotLive) p q = elim q [ ]
+one_outcome n f (Stop Unsound) (Stop Rattle.answers.specs.declared.Refusal.TheVariants.StartsElsewhere) p q = elim q [ ]
+one_outcome n f (Stop Rattle.answers.specs.declared.Refusal.TheVariants.StartsElsewhere) t p q = elim p [ ]
+one_outcome n f (In c) (Stop Rattle.answers.specs.declared.Refusal.TheVariants.BadCount) p q = elim q [ ]
+one_outcome n f (In c) (Stop Rattle.answers.specs.declared.Refusal.TheVariants.TableTooShort) p q = elim q [ ]
+one_outcome n f (In c) (Stop Rattle.answers.specs.declared.Refusal.TheVariants.NotLive) p q = elim q [ ]
+one_outcome n f (In c) (Stop Rattle.answers.specs.declared.Refusal.TheVariants.StartsElsewhere) p q = elim q [ ]
 
 pub seeks_mean : SeeksMean
 seeks_mean = record { one_outcome = one_outcome }

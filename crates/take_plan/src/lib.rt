@@ -1,7 +1,9 @@
 // What a take finds, or why not: reads only, so that a refusal changes nothing.
 //
 // Private to the allocator, though Rattle has no word for that: the room that is required here the gate has tested.
-ghost use Rattle.std.specs.Prelude.{◌≡◌, cond, ◌≤◌, [], eqb, length as length-of, get_or};
+#![tactic(auto)]
+
+ghost use Rattle.std.specs.Prelude.{◌≡◌, cond, ◌≤◌, [], eqb, length as length_of, get_or};
 ghost use Rattle.small_float.specs.Class.{rounded_up};
 ghost use Rattle.small_float.specs.RoundedUp.{rounded_to};
 ghost use Rattle.tables.specs.Take.{plan_spare, plan_region, plan_record, plan_take};
@@ -17,7 +19,7 @@ use records::totals::Totals;
 use small_float::{Class, RoundedUp, Size};
 
 // The region that a take is given: its class, its record, and where it lies.
-#[derive(Drop)]
+#[derive(Clone, Copy)]
 pub struct Region {
     pub class: Class,
     pub record: Handle,
@@ -25,13 +27,13 @@ pub struct Region {
 }
 
 // What is left of a longer one: its length, and the spare record that it takes.
-#[derive(Drop)]
+#[derive(Clone, Copy)]
 pub struct Remainder {
     pub size: Size,
     pub record: Handle,
 }
 
-#[derive(Drop)]
+#[derive(Clone, Copy)]
 pub enum Planned {
     Stop(Refusal),
     // a region of just the right length
@@ -40,7 +42,7 @@ pub enum Planned {
 }
 
 // What a take comes to before it looks at a region: what stops it, or the class to look in.
-#[derive(Drop)]
+#[derive(Clone, Copy)]
 pub enum Sought {
     Stop(Refusal),
     In(Class),
@@ -48,7 +50,7 @@ pub enum Sought {
 
 // A remainder needs the record on top of the pile.
 fn plan_spare(t: Totals, region: Region, rest: Size, free_nodes: &[u32]) -> Planned
-    requires { t.max_allocs ≤ length-of free_nodes.now }
+    requires { t.max_allocs ≤ length_of free_nodes.now }
     ensures { plan_of result
         ≡ plan_spare (words_of t [] [] [] free_nodes.now)
         region.class.0 region.record.0 region.offset rest.0 (get_or free_nodes.now t.free_offset 0) }
@@ -72,7 +74,7 @@ fn plan_spare(t: Totals, region: Region, rest: Size, free_nodes: &[u32]) -> Plan
 
 // The region found is long enough, lies in the store, and the kept total has room for the request.
 fn plan_region(t: Totals, size: Size, region: Region, length: Size, free_nodes: &[u32]) -> Planned
-    requires { t.max_allocs ≤ length-of free_nodes.now }
+    requires { t.max_allocs ≤ length_of free_nodes.now }
     ensures { plan_of result
         ≡ plan_region (words_of t [] [] [] free_nodes.now) size.0 region.class.0 region.record.0 length.0 region.offset }
 {
@@ -106,7 +108,7 @@ fn plan_record(
     free_nodes: &[u32],
 ) -> Planned
     requires has_room { HasRoom t.max_allocs nodes.now }
-    requires max_allocs_in_bounds { t.max_allocs ≤ length-of free_nodes.now }
+    requires max_allocs_in_bounds { t.max_allocs ≤ length_of free_nodes.now }
     ensures { plan_of result ≡ plan_record (words_of t [] [] nodes.now free_nodes.now) size.0 c.0 r.0 }
 {
     if t.max_allocs <= r.0 {
@@ -166,7 +168,7 @@ pub fn plan(
     free_nodes: &[u32],
 ) -> Planned
     requires has_room { HasRoom t.max_allocs nodes.now }
-    requires max_allocs_in_bounds { t.max_allocs ≤ length-of free_nodes.now }
+    requires max_allocs_in_bounds { t.max_allocs ≤ length_of free_nodes.now }
     ensures { plan_of result
         ≡ plan_take (words_of t bin_indices.now used_bins.now nodes.now free_nodes.now) size.0 }
 {

@@ -1,4 +1,6 @@
 // Take: `allocate` of the Rust, in place.
+#![tactic(auto)]
+
 ghost use Rattle.std.specs.Prelude.{◌≡◌, ◌≤◌, length};
 ghost use Rattle.ledger.specs.Ledger.{granted, refused};
 ghost use Rattle.ledger.specs.Calls.{Take};
@@ -16,7 +18,7 @@ use records::totals::Totals;
 use small_float::Size;
 use take_plan::{Planned, Region};
 
-#[derive(Drop)]
+#[derive(Clone, Copy)]
 pub struct Taken {
     pub answer: TakeAnswer,
     pub totals: Totals,

@@ -26,7 +26,7 @@ abbrev pub made : (Words → Lent) → Call → Words → Answer × Words
 made lends (call.SetUp size count) w = told_by (setup_words edition32 size count (lends w))
 made lends call.Reset w = told_by (answer_words edition32 ledger-calls.Reset w)
 made lends (call.Take size) w = told_by (answer_words edition32 (ledger-calls.takes size) w)
-made lends (call.HandBack offset number) w = told_by (answer_words edition32 (ledger-calls.hands_back_lem offset number) w)
+made lends (call.HandBack offset number) w = told_by (answer_words edition32 (ledger-calls.gives_back offset number) w)
 made lends (call.SizeOf offset number) w = told_by (answer_words edition32 (ledger-calls.asks_size offset number) w)
 made lends call.Report w = told_by (answer_words edition32 (ledger-calls.Ask ledger-calls.Report) w)
 made lends (call.ClassOf class) w = (told_as (class_in class) (answer_words edition32 (ledger-calls.Ask ledger-calls.FullReport) w).0, w)

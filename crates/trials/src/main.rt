@@ -3,11 +3,14 @@
 //
 // With an argument long runs are compared, which tools/long-run pipes in, on tables for 1,048,576 records, one form at a time: with one argument in
 // place, with two by value. The tables take 36 MiB, so tools/long-run asks for a stack that holds them.
+#![tactic(auto)]
+
 mod list;
 
 use list::runs::Comparison;
 use list::{outcome, runs};
 use run_rows::forms::Forms;
+use std::env::{Env, FillError};
 
 // The form that is left out is lent tables of one word, which nothing touches.
 fn compare_in_place(nodes: &mut [u32; 8388608], free_nodes: &mut [u32; 1048576]) -> Comparison {
@@ -84,7 +87,8 @@ fn print_long_on(words: usize, nodes: &mut [u32; 8388608], free_nodes: &mut [u32
 }
 
 // The input is one list, of which words beyond the second find nothing left. That the function calls itself for these is for the compiler, which puts
-// no such function into its caller: there the tables would be on the stack with the list of the gate too.
+// no such function into its caller, and is told so too: there the tables would be on the stack with the list of the gate too.
+#[inline(never)]
 fn print_long(words: usize) {
     let mut nodes = [0u32; 8388608];
     let mut free_nodes = [0u32; 1048576];
@@ -94,11 +98,22 @@ fn print_long(words: usize) {
     }
 }
 
-// The first argument is the program's own name.
-fn main() {
-    let arguments = os::arg_count();
-    if 1 < arguments {
-        print_long(arguments - 1);
+// How many arguments there are. The first of all is the program's own name, and the list ends where one is missing.
+fn argument_count(env: &impl Env) -> usize {
+    let mut count = 0;
+    for i in 1..usize::MAX {
+        if let Err(FillError::NotPresent) = env.arg(i, &mut []) {
+            break;
+        }
+        count = i;
+    }
+    count
+}
+
+fn main(rt: HostRuntime) {
+    let arguments = argument_count(&rt);
+    if 0 < arguments {
+        print_long(arguments);
     } else {
         print_list();
     }

@@ -1,9 +1,9 @@
 // The list on standard input, read on a row at a time.
-use libc::STDIN_FILENO;
 use oracle_lists::rows::Reader;
+use streams::STDIN_FILENO;
 
 // The row read so far, and whether it has just become whole; how many bytes the buffer holds, and how many of them were read.
-#[derive(Drop)]
+#[derive(Clone, Copy)]
 pub struct Input {
     pub reader: Reader,
     pub whole: bool,

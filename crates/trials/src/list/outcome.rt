@@ -1,6 +1,6 @@
 // How many rows agreed, written to standard output.
 use crate::list::runs::Comparison;
-use libc::STDOUT_FILENO;
+use streams::STDOUT_FILENO;
 
 // A line: a text, then a number.
 fn line(text: &[u8], n: u64) {

@@ -13,7 +13,7 @@ use run_rows::{asked, full};
 
 // The list read so far, the tally of its rows, how many classes of a full report came just before, and what each form keeps beside its arrays
 // and tables.
-#[derive(Drop)]
+#[derive(Clone, Copy)]
 pub struct Comparison {
     pub forms: Forms,
     pub input: Input,

@@ -1,0 +1,21 @@
+-- Shut out by the gate, or let in. Assumes nothing.
+use mathlib.Core.Path.{refl}
+use Rattle.ledger.specs.Calls.{Report, Ask}
+use Rattle.tables.specs.Questions.{report_class, report_leaf, report_top, report_of, told_by}
+use Rattle.tables.specs.Calls.{edition32, behind}
+use Rattle.tables.proofs.Gate.{let_in}
+use Rattle.tables.proofs.Commits.{outcome_is}
+use Rattle.tables.proofs.Promise.{promise}
+use Rattle.records.proofs.GateWalk.{shut_out, opened}
+use Rattle.asking.proofs.storage_report.Goals as goal
+
+pub returns-in-Shut : goal.returns-in-Shut
+returns-in-Shut c =
+    promise edition32 (Ask Report) _ (shut_out edition32 _ (Ask Report) c.test.ensures c.in-Shut.is)
+
+pub returns-in-Open : goal.returns-in-Open
+unfolding behind told_by report_of report_top report_leaf report_class
+returns-in-Open c =
+    promise edition32 (Ask Report) _
+    (let_in edition32 (Ask Report) _ (opened edition32 _ c.test.ensures c.in-Open.is)
+    (outcome_is c.report.ensures refl))

@@ -1,0 +1,6 @@
+-- The answer is told as it was given. Assumes nothing.
+use Rattle.telling.proofs.Promised.{told_so}
+use Rattle.asking_by_value.proofs.size_of.Goals as goal
+
+pub returns : goal.returns
+returns c = told_so c.of_size.ensures c.allocation_size-given.ensures.exact

@@ -1,0 +1,14 @@
+-- The byte is put back. Assumes nothing.
+use mathlib.Core.Path.{refl}
+use lib.Seq.{set-set, set-get_or}
+use Rattle.audit_verdicts.proofs.Means.{never_agrees}
+use Rattle.audit_trials.proofs.parts.spoil_leaf.Goals as goal
+
+pub returns-then-at-ge32 : goal.returns-then-at-ge32
+returns-then-at-ge32 c = ((λ e. never_agrees e), refl)
+
+pub returns-then-v-gt255 : goal.returns-then-v-gt255
+returns-then-v-gt255 c = ((λ e. never_agrees e), refl)
+
+pub returns : goal.returns
+returns c = (c.judge-verdict.ensures, simp (set-set, set-get_or))

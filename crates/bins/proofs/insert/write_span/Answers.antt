@@ -1,0 +1,5 @@
+-- Two writes, one after the other. Assumes nothing.
+use Rattle.bins.proofs.insert.write_span.Goals as goal
+
+pub returns : goal.returns
+returns c = cc

@@ -1,0 +1,6 @@
+-- The answer says what the call answered. Assumes nothing.
+use Rattle.calling.proofs.Promised.{said_so}
+use Rattle.calling.proofs.take.Goals as goal
+
+pub returns : goal.returns
+returns c = record { promised = said_so c.of_take.ensures c.allocate-taken.ensures }

@@ -1,0 +1,13 @@
+-- The measure is the number of calls that are left. Assumes nothing.
+use mathlib.Core.Path.{◌≡◌}
+use Prim.Native.Nat.{◌-◌, ◌≤◌}
+use lib.ListN.{length}
+use Rattle.driving.proofs.lent.run.Given as goal
+
+abbrev pub invariant-loop-i : goal.invariant-loop-i
+invariant-loop-i l =
+    (l.i ≤ l.plan.calls) × (length l.nodes ≡ length l.initial.nodes) × (length l.free_nodes ≡ length l.initial.free_nodes) × (length l.out ≡ length l.initial.out)
+
+abbrev pub decreases-loop-i : goal.decreases-loop-i
+decreases-loop-i l =
+    l.plan.calls - l.i

@@ -1,0 +1,11 @@
+-- What the reset by value promises, with its head in the arrays. Assumes nothing.
+use Rattle.host_values.proofs.Kept.{call_moved}
+use Rattle.host_by_value.proofs.setups.ds_by_value_reset.Goals as goal
+
+pub returns : goal.returns
+returns c =
+    record {
+      given = _;
+      promised = call_moved (c.of_arrays-found.ensures _ _) (c.keep.ensures _ _) c.reset-started.ensures;
+      told = c.number.ensures;
+    }

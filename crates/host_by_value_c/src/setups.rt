@@ -1,0 +1,61 @@
+// Setup and reset, with the head by value.
+ghost use Rattle.ledger.specs.Figures.{refusal_of};
+ghost use Rattle.ledger.specs.Calls.{Reset};
+ghost use Rattle.tables.specs.Setup.{tables_alone};
+ghost use Rattle.tables.specs.Calls.{edition32};
+ghost use Rattle.tables.specs.Promise.{Promise, SetupPromise};
+ghost use Rattle.host_values.specs.Kept.{words_in};
+ghost use Rattle.host_values.specs.Tells.{Tells};
+
+use records::totals::Totals;
+
+// A store of this size, all of it free, with this many records. Refused, the head is one of zeros, its arrays too.
+#[unsafe(no_mangle)]
+pub extern "C" fn ds_by_value_set_up(
+    scalars: &mut [u32; Totals::SCALARS],
+    size: u32,
+    count: u32,
+    bins: &mut [u32; 256],
+    leaves: &mut [u8; 32],
+    nodes: &mut [u32],
+    pile: &mut [u32],
+) -> u32
+    ensures { Tells refusal_of (SetupPromise edition32 size count
+        (tables_alone nodes.old pile.old)
+        (words_in scalars.new bins.new leaves.new nodes.new pile.new)) result }
+{
+    host_by_value::setups::ds_by_value_set_up(scalars, size, count, bins, leaves, nodes, pile)
+}
+
+// The same with the count of records that the Rust takes by default.
+#[unsafe(no_mangle)]
+pub extern "C" fn ds_by_value_new(
+    scalars: &mut [u32; Totals::SCALARS],
+    size: u32,
+    bins: &mut [u32; 256],
+    leaves: &mut [u8; 32],
+    nodes: &mut [u32],
+    pile: &mut [u32],
+) -> u32
+    ensures { Tells refusal_of (SetupPromise edition32 size 131072
+        (tables_alone nodes.old pile.old)
+        (words_in scalars.new bins.new leaves.new nodes.new pile.new)) result }
+{
+    host_by_value::setups::ds_by_value_new(scalars, size, bins, leaves, nodes, pile)
+}
+
+// All spans are forgotten: the store is as after setup.
+#[unsafe(no_mangle)]
+pub extern "C" fn ds_by_value_reset(
+    scalars: &mut [u32; Totals::SCALARS],
+    bins: &mut [u32; 256],
+    leaves: &mut [u8; 32],
+    nodes: &mut [u32],
+    pile: &mut [u32],
+) -> u32
+    ensures { Tells refusal_of (Promise edition32 Reset
+        (words_in scalars.old bins.old leaves.old nodes.old pile.old)
+        (words_in scalars.new bins.new leaves.new nodes.new pile.new)) result }
+{
+    host_by_value::setups::ds_by_value_reset(scalars, bins, leaves, nodes, pile)
+}

@@ -1,0 +1,18 @@
+-- The measure is the number of turns that are left. Assumes nothing.
+use native.Mathlib.Omega.{arith}
+use Rattle.speed_packets.proofs.bare.copies_of.Goals as goal
+
+pub loop-i-init : goal.loop-i-init
+loop-i-init c = omega arith
+
+pub overflow_add-i : goal.overflow_add-i
+overflow_add-i c = omega arith
+
+pub copy-requires : goal.copy-requires
+copy-requires c = tt
+
+pub loop-i-smaller : goal.loop-i-smaller
+loop-i-smaller c = omega arith
+
+pub loop-i-preserved : goal.loop-i-preserved
+loop-i-preserved c = omega arith

@@ -1,0 +1,11 @@
+-- Of the classes that have been passed those are counted that hold something, and no more than they are. Assumes nothing.
+use Prim.Native.Nat.{◌-◌, ◌≤◌}
+use mathlib.Core.Path.{◌≡◌}
+use Rattle.telling.proofs.Columns.{held_below}
+use Rattle.telling.proofs.told.count_held.Given as goal
+
+abbrev pub invariant-loop-i : goal.invariant-loop-i
+invariant-loop-i l = (l.held ≤ l.i) × (l.i ≤ 256) × (l.held ≡ held_below l.i l.counts)
+
+abbrev pub decreases-loop-i : goal.decreases-loop-i
+decreases-loop-i l = 256 - l.i
