@@ -1,6 +1,6 @@
 -- What the rows of the list of runs ask, letter by letter as oracle/README.md has them, and what an answer that agrees with one was. One record,
 -- which proofs/Claims.antt makes. Assumes nothing.
-use Rattle.std.specs.Prelude.{cond, ℕ, ◌≤◌, ◌≡◌, ◌≢◌, ◌⊎◌, List, [], ◌∷◌, eqb}
+use Rattle.std.specs.Prelude.{cond, ℕ, ◌≤◌, ◌≡◌, ◌≢◌, ◌⊎◌, List, [], ◌∷◌, eqb, Some}
 use Rattle.oracle_lists.specs.declared.rows.Reader.{Reader}
 use Rattle.oracle_lists.specs.declared.tally.Verdict.TheVariants.{Agrees, Listed}
 use Rattle.call_verdicts.specs.Verdicts.{call_verdict}
@@ -14,7 +14,7 @@ use Rattle.answer_rows.specs.Said.{said_of}
 
 -- the row of a letter and its numbers asks for this call
 abbrev pub Asks : (letter : ℕ) → List ℕ → Call → Type 0
-Asks letter numbers c = call_of (row_read letter numbers) ≡ c
+Asks letter numbers c = call_of (row_read letter numbers) ≡ Some c
 
 -- what a row other than x says that was answered, by its letter and its last two numbers: for b and u the port has 5, for w and m 8; n, z and f are done
 abbrev pub answer_in : (letter c d : ℕ) → Answer
@@ -43,7 +43,7 @@ pub record RowClaims : Type 0 where
   pub g_asks : (class value regions : ℕ) → Asks 103 (class ∷ value ∷ regions ∷ []) (call.ClassOf class)
   pub e_asks : (classes : ℕ) → Asks 101 (classes ∷ []) call.ClassesHeld
   -- and to ask is to be read as that call, no less
-  pub asks_means : (letter : ℕ) (numbers : List ℕ) (c : Call) → Asks letter numbers c → call_of (row_read letter numbers) ≡ c
+  pub asks_means : (letter : ℕ) (numbers : List ℕ) (c : Call) → Asks letter numbers c → call_of (row_read letter numbers) ≡ Some c
   -- a row of a list, whose letter is from a to z, agrees with no answer but its own
   pub agrees_with : (r : Reader) (c : Call) (a : Answer)
       → call_verdict r (said_of c a) ≡ Agrees

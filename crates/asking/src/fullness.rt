@@ -5,7 +5,7 @@ ghost use Rattle.tables.specs.Questions.{fill_of_words};
 ghost use Rattle.records.specs.InWords.{words_of};
 ghost use Rattle.answers.specs.Answers.{fill_says};
 
-use answers::{Fill, FillAnswer, Refusal};
+use answers::{Fill, Refusal};
 use records::totals::Totals;
 use small_float::Size;
 
@@ -21,14 +21,14 @@ fn part_filled(live: u32, size: u32) -> u16
 }
 
 // More free than there is: a kept total that passes the size is not sound.
-pub fn fullness(t: Totals) -> FillAnswer
+pub fn fullness(t: Totals) -> Result<Fill, Refusal>
     ensures { fill_says result ≡ fill_of_words (words_of t [] [] [] []) }
 {
     if t.size < t.free_storage {
-        return FillAnswer::Refused(Refusal::Unsound);
+        return Err(Refusal::Unsound);
     }
     let live = t.size - t.free_storage;
-    FillAnswer::Told(Fill {
+    Ok(Fill {
         live: Size(live),
         fill: part_filled(live, t.size),
     })

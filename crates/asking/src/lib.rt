@@ -9,9 +9,9 @@ ghost use Rattle.records.specs.InWords.{words_of};
 ghost use Rattle.answers.specs.Answers.{size_says, report_says, full_says, fill_says, FiguresOfZero, AllPlaces};
 ghost use Rattle.asking.specs.Answers.{Asked};
 
-use answers::{Allocation, FillAnswer, FullAnswer, Refusal, ReportAnswer, SizeAnswer};
-use records::gate::Gate;
+use answers::{Allocation, FullAnswer, Refusal, StorageReport};
 use records::nodes;
+use records::nodes::Field;
 use records::totals::Totals;
 use small_float::Size;
 
@@ -26,23 +26,19 @@ pub fn allocation_size(
     used_bins: &[u8; 32],
     nodes: &[u32],
     free_nodes: &[u32],
-) -> SizeAnswer
+) -> Result<Size, Refusal>
     ensures { Asked (size_says result) (SizeOf (token_of span))
         (words_of t bin_indices.now used_bins.now nodes.now free_nodes.now) }
 {
     let handle = span.metadata;
-    match records::gate::test(t.max_allocs, nodes, free_nodes, Refusal::Unsound) {
-        Gate::Shut(why) => SizeAnswer::Refused(why),
-        Gate::Open => {
-            if records::live::is_live(nodes, t.max_allocs, handle) {
-                if nodes::word(nodes, handle, nodes::DATA_OFFSET) != span.offset {
-                    return SizeAnswer::Refused(Refusal::StartsElsewhere);
-                }
-                return SizeAnswer::Length(Size(nodes::word(nodes, handle, nodes::DATA_SIZE)));
-            }
-            SizeAnswer::Refused(Refusal::NotLive)
-        }
+    records::gate::test(t.max_allocs, nodes, free_nodes, Refusal::Unsound)?;
+    if !records::live::is_live(nodes, t.max_allocs, handle) {
+        return Err(Refusal::NotLive);
     }
+    if nodes::word(nodes, handle, Field::DataOffset) != span.offset {
+        return Err(Refusal::StartsElsewhere);
+    }
+    Ok(Size(nodes::word(nodes, handle, Field::DataSize)))
 }
 
 // The sum of the free lengths, and the value of the highest class that holds a region; 0 and 0 with one spare record.
@@ -52,14 +48,12 @@ pub fn storage_report(
     used_bins: &[u8; 32],
     nodes: &[u32],
     free_nodes: &[u32],
-) -> ReportAnswer
+) -> Result<StorageReport, Refusal>
     ensures { Asked (report_says result) Report
         (words_of t bin_indices.now used_bins.now nodes.now free_nodes.now) }
 {
-    match records::gate::test(t.max_allocs, nodes, free_nodes, Refusal::Unsound) {
-        Gate::Shut(why) => ReportAnswer::Refused(why),
-        Gate::Open => report::report(t, used_bins),
-    }
+    records::gate::test(t.max_allocs, nodes, free_nodes, Refusal::Unsound)?;
+    report::report(t, used_bins)
 }
 
 // The value of each class, and how many free regions it holds.
@@ -76,8 +70,8 @@ pub fn storage_report_full(
     ensures places { AllPlaces result }
 {
     match records::gate::test(t.max_allocs, nodes, free_nodes, Refusal::Unsound) {
-        Gate::Shut(why) => full_report::refuse(why),
-        Gate::Open => full_report::count(t, bin_indices, nodes),
+        Err(why) => full_report::refuse(why),
+        Ok(()) => full_report::count(t, bin_indices, nodes),
     }
 }
 
@@ -88,12 +82,10 @@ pub fn fill(
     used_bins: &[u8; 32],
     nodes: &[u32],
     free_nodes: &[u32],
-) -> FillAnswer
+) -> Result<answers::Fill, Refusal>
     ensures { Asked (fill_says result) Fill
         (words_of t bin_indices.now used_bins.now nodes.now free_nodes.now) }
 {
-    match records::gate::test(t.max_allocs, nodes, free_nodes, Refusal::Unsound) {
-        Gate::Shut(why) => FillAnswer::Refused(why),
-        Gate::Open => fullness::fullness(t),
-    }
+    records::gate::test(t.max_allocs, nodes, free_nodes, Refusal::Unsound)?;
+    fullness::fullness(t)
 }

@@ -1,4 +1,4 @@
-// The questions by value, as they come as values: the head goes in, and comes out as it was.
+// The questions by value, as they come as values: the head goes in, and stays as it was.
 #![tactic(auto)]
 
 ghost use Rattle.std.specs.Prelude.{◌≡◌};
@@ -13,15 +13,9 @@ use call_values::answer::Answer;
 use offset_allocator::head::Head;
 use telling::told;
 
-// What a call by value answered, and the head that it gave back.
-#[derive(Clone, Copy)]
-pub struct Called {
-    pub answer: Answer,
-    pub head: Head,
-}
-
-pub fn size_of(head: Head, nodes: &[u32], free_nodes: &[u32], offset: u32, number: u32) -> Called
-    ensures { ◌≡◌ {A = Told × Words} (result.answer, head_words result.head nodes.now free_nodes.now)
+// The four questions stand in `calling_in_place` once more, which says why.
+pub fn size_of(head: Head, nodes: &[u32], free_nodes: &[u32], offset: u32, number: u32) -> Answer
+    ensures { ◌≡◌ {A = Told × Words} (result, head_words head nodes.now free_nodes.now)
         (made by_value (SizeOf offset number) (head_words head nodes.now free_nodes.now)) }
 {
     let span = Allocation {
@@ -29,41 +23,29 @@ pub fn size_of(head: Head, nodes: &[u32], free_nodes: &[u32], offset: u32, numbe
         metadata: Handle(number),
     };
     let given = head.allocation_size(span, nodes, free_nodes);
-    Called {
-        answer: told::of_size(given),
-        head: head,
-    }
+    told::of_answer(given)
 }
 
-pub fn report(head: Head, nodes: &[u32], free_nodes: &[u32]) -> Called
-    ensures { ◌≡◌ {A = Told × Words} (result.answer, head_words result.head nodes.now free_nodes.now)
+pub fn report(head: Head, nodes: &[u32], free_nodes: &[u32]) -> Answer
+    ensures { ◌≡◌ {A = Told × Words} (result, head_words head nodes.now free_nodes.now)
         (made by_value Report (head_words head nodes.now free_nodes.now)) }
 {
     let given = head.storage_report(nodes, free_nodes);
-    Called {
-        answer: told::of_report(given),
-        head: head,
-    }
+    told::of_answer(given)
 }
 
-pub fn class_of(head: Head, nodes: &[u32], free_nodes: &[u32], class: u32) -> Called
-    ensures { ◌≡◌ {A = Told × Words} (result.answer, head_words result.head nodes.now free_nodes.now)
+pub fn class_of(head: Head, nodes: &[u32], free_nodes: &[u32], class: u32) -> Answer
+    ensures { ◌≡◌ {A = Told × Words} (result, head_words head nodes.now free_nodes.now)
         (made by_value (ClassOf class) (head_words head nodes.now free_nodes.now)) }
 {
     let full = head.storage_report_full(nodes, free_nodes);
-    Called {
-        answer: told::of_class(full, class),
-        head: head,
-    }
+    told::of_class(full, class)
 }
 
-pub fn classes_held(head: Head, nodes: &[u32], free_nodes: &[u32]) -> Called
-    ensures { ◌≡◌ {A = Told × Words} (result.answer, head_words result.head nodes.now free_nodes.now)
+pub fn classes_held(head: Head, nodes: &[u32], free_nodes: &[u32]) -> Answer
+    ensures { ◌≡◌ {A = Told × Words} (result, head_words head nodes.now free_nodes.now)
         (made by_value ClassesHeld (head_words head nodes.now free_nodes.now)) }
 {
     let full = head.storage_report_full(nodes, free_nodes);
-    Called {
-        answer: told::of_classes(full),
-        head: head,
-    }
+    told::of_classes(full)
 }

@@ -2,39 +2,37 @@
 ghost use Rattle.std.specs.Prelude.{◌≡◌, ◌+◌, ◌<◌, ◌≤◌, ◌^◌, length};
 ghost use Rattle.tables.specs.Layout.{data_size, neighbor_next, word as word_of};
 ghost use Rattle.tables.specs.Calls.{edition32};
-ghost use Rattle.records.specs.InWords.{HasRoom, InTable};
+ghost use Rattle.records.specs.InWords.{InTable};
 ghost use Rattle.audit_words.specs.Chain.{starts_chain, first_record, good_used, good_region, advanced, walk_from, started, walk_ends};
 ghost use Rattle.audit_words.specs.Bounded.{Bounded};
 ghost use Rattle.audit_chain.specs.Comes.{Comes};
 
+use crate::marked::Marked;
 use answers::Handle;
 use audit_words::Walk;
 use records::nodes;
+use records::nodes::Field;
 use records::totals::Totals;
 
 // A record that is not spare and has nothing before it.
-fn starts_chain(nodes: &[u32], scratch: &[u32], r: Handle) -> bool
-    requires in_table { InTable r.0 nodes.now }
-    requires r_in_bounds { r.0 < length scratch.now }
-    ensures { result ≡ starts_chain edition32 nodes.now scratch.now r.0 }
+fn starts_chain(m: Marked, r: Handle) -> bool
+    requires { r.0 < m.max_allocs }
+    ensures { result ≡ starts_chain edition32 m.entry.nodes.now m.entry.scratch.now r.0 }
 {
-    if crate::scratch::marked(scratch, r) != 0 {
+    if crate::scratch::marked(m.scratch, r) != 0 {
         return false;
     }
-    nodes::word(nodes, r, nodes::NEIGHBOR_PREV) == nodes::NONE
+    nodes::word(m.nodes, r, Field::NeighborPrev) == nodes::NONE
 }
 
-pub fn first_record(nodes: &[u32], scratch: &[u32], max_allocs: u32) -> Handle
-    requires has_room { HasRoom max_allocs nodes.now }
-    requires max_allocs_in_bounds { max_allocs ≤ length scratch.now }
-    ensures { result.0 ≡ first_record edition32 max_allocs nodes.now scratch.now 0 }
+// The marker of no record where none is: a link as the tables have it, which the walk compares, and what `first_record` of the model gives.
+pub fn first_record(m: Marked) -> Handle
+    ensures { result.0 ≡ first_record edition32 m.entry.max_allocs m.entry.nodes.now m.entry.scratch.now 0 }
 {
-    let mut i: u32 = 0;
-    while i < max_allocs {
-        if starts_chain(nodes, scratch, Handle(i)) {
+    for i in 0..m.max_allocs {
+        if starts_chain(m, Handle(i)) {
             return Handle(i);
         }
-        i += 1;
     }
     Handle(nodes::NONE)
 }
@@ -50,29 +48,27 @@ fn good_used(before: u32, this: u32) -> bool
 }
 
 // The region that the walk has come to, in the store and joined to the one before it.
-fn good_region(nodes: &[u32], scratch: &[u32], t: Totals, w: Walk) -> bool
-    requires has_room { HasRoom t.max_allocs nodes.now }
-    requires max_allocs_in_bounds { t.max_allocs ≤ length scratch.now }
-    requires offset_le_size { w.offset ≤ t.size }
-    ensures { result ≡ good_region nodes.now scratch.now t.max_allocs t.size w }
+fn good_region(m: Marked, size: u32, w: Walk) -> bool
+    requires { w.offset ≤ size }
+    ensures { result ≡ good_region m.entry.nodes.now m.entry.scratch.now m.entry.max_allocs size w }
 {
     let r = Handle(w.here);
-    if t.max_allocs <= r.0 {
+    if m.max_allocs <= r.0 {
         return false;
     }
-    if crate::scratch::marked(scratch, r) != 0 {
+    if crate::scratch::marked(m.scratch, r) != 0 {
         return false;
     }
-    if nodes::word(nodes, r, nodes::NEIGHBOR_PREV) != w.prev {
+    if nodes::word(m.nodes, r, Field::NeighborPrev) != w.prev {
         return false;
     }
-    if nodes::word(nodes, r, nodes::DATA_OFFSET) != w.offset {
+    if nodes::word(m.nodes, r, Field::DataOffset) != w.offset {
         return false;
     }
-    if t.size - w.offset < nodes::word(nodes, r, nodes::DATA_SIZE) {
+    if size - w.offset < nodes::word(m.nodes, r, Field::DataSize) {
         return false;
     }
-    good_used(w.used, nodes::word(nodes, r, nodes::USED))
+    good_used(w.used, nodes::word(m.nodes, r, Field::Used))
 }
 
 // The link of the region at which the walk stands.
@@ -80,7 +76,7 @@ fn next_of(nodes: &[u32], w: Walk) -> u32
     requires { InTable w.here nodes.now }
     ensures { result ≡ word_of nodes.now neighbor_next w.here }
 {
-    nodes::word(nodes, Handle(w.here), nodes::NEIGHBOR_NEXT)
+    nodes::word(nodes, Handle(w.here), Field::NeighborNext)
 }
 
 // Past this region to the next, whose number the caller has.
@@ -94,14 +90,14 @@ fn advance(nodes: &[u32], w: Walk, next: u32) -> Walk
     ensures { result ≡ advanced nodes.now w }
 {
     let r = Handle(w.here);
-    let size = nodes::word(nodes, r, nodes::DATA_SIZE);
-    let used = nodes::word(nodes, r, nodes::USED);
+    let size = nodes::word(nodes, r, Field::DataSize);
+    let used = nodes::word(nodes, r, Field::Used);
     if used == 0 {
         return Walk {
             prev: w.here,
             here: next,
             offset: w.offset + size,
-            used: used,
+            used,
             records: w.records + 1,
             frees: w.frees + 1,
             total: w.total + size,
@@ -111,7 +107,7 @@ fn advance(nodes: &[u32], w: Walk, next: u32) -> Walk
         prev: w.here,
         here: next,
         offset: w.offset + size,
-        used: used,
+        used,
         records: w.records + 1,
         frees: w.frees,
         total: w.total,
@@ -120,23 +116,22 @@ fn advance(nodes: &[u32], w: Walk, next: u32) -> Walk
 
 // As far as the regions are good and their records follow each other by number. The next record's number is a sum here, and the link is only compared
 // with it: the processor need not wait for the word before it reads the next record.
-fn run_on(nodes: &[u32], scratch: &[u32], t: Totals, start: Walk) -> Walk
-    requires has_room { HasRoom t.max_allocs nodes.now }
-    requires max_allocs_in_bounds { t.max_allocs ≤ length scratch.now }
-    requires bounded { Bounded t.max_allocs t.size start }
-    ensures { Comes nodes.now scratch.now t.max_allocs t.size start result }
+fn run_on(m: Marked, size: u32, start: Walk) -> Walk
+    requires { Bounded m.max_allocs size start }
+    ensures { Comes m.entry.nodes.now m.entry.scratch.now m.entry.max_allocs size start result }
 {
     let mut w = start;
-    while w.records < t.max_allocs {
-        if !good_region(nodes, scratch, t, w) {
+    // along links: how many records were met stands in the walk, which the model's `advanced` counts
+    while w.records < m.max_allocs {
+        if !good_region(m, size, w) {
             return w;
         }
         let follows = w.here + 1;
-        let next = next_of(nodes, w);
+        let next = next_of(m.nodes, w);
         if next != follows {
             return w;
         }
-        w = advance(nodes, w, follows);
+        w = advance(m.nodes, w, follows);
     }
     w
 }
@@ -146,16 +141,14 @@ fn run_on(nodes: &[u32], scratch: &[u32], t: Totals, start: Walk) -> Walk
 const MANY: u32 = 8;
 
 // A run, if it is likely to be long; otherwise not a step.
-fn run_if_likely(nodes: &[u32], scratch: &[u32], t: Totals, w: Walk, in_a_row: u32) -> Walk
-    requires has_room { HasRoom t.max_allocs nodes.now }
-    requires max_allocs_in_bounds { t.max_allocs ≤ length scratch.now }
-    requires bounded { Bounded t.max_allocs t.size w }
-    ensures { Comes nodes.now scratch.now t.max_allocs t.size w result }
+fn run_if_likely(m: Marked, size: u32, w: Walk, in_a_row: u32) -> Walk
+    requires { Bounded m.max_allocs size w }
+    ensures { Comes m.entry.nodes.now m.entry.scratch.now m.entry.max_allocs size w result }
 {
     if in_a_row < MANY {
         return w;
     }
-    run_on(nodes, scratch, t, w)
+    run_on(m, size, w)
 }
 
 // How many in a row, with one region more.
@@ -170,12 +163,10 @@ fn counted(in_a_row: u32, follows: u32, next: u32) -> u32
 }
 
 // From the first record as far as the regions are good.
-pub fn walk_from(nodes: &[u32], scratch: &[u32], t: Totals, first: Handle) -> Walk
-    requires has_room { HasRoom t.max_allocs nodes.now }
-    requires max_allocs_in_bounds { t.max_allocs ≤ length scratch.now }
+pub fn walk_from(m: Marked, size: u32, first: Handle) -> Walk
     ensures value { result
-        ≡ walk_from t.max_allocs nodes.now scratch.now t.max_allocs t.size (started edition32 first.0) }
-    ensures records_bound { result.records ≤ t.max_allocs }
+        ≡ walk_from m.entry.max_allocs m.entry.nodes.now m.entry.scratch.now m.entry.max_allocs size (started edition32 first.0) }
+    ensures records_bound { result.records ≤ m.entry.max_allocs }
 {
     let start = first.0;
     let mut w = Walk {
@@ -188,15 +179,15 @@ pub fn walk_from(nodes: &[u32], scratch: &[u32], t: Totals, first: Handle) -> Wa
         total: 0,
     };
     let mut in_a_row: u32 = 0;
-    while w.records < t.max_allocs {
-        if !good_region(nodes, scratch, t, w) {
+    while w.records < m.max_allocs {
+        if !good_region(m, size, w) {
             return w;
         }
         let follows = w.here + 1;
-        let next = next_of(nodes, w);
+        let next = next_of(m.nodes, w);
         in_a_row = counted(in_a_row, follows, next);
-        let v = advance(nodes, w, next);
-        w = run_if_likely(nodes, scratch, t, v, in_a_row);
+        let v = advance(m.nodes, w, next);
+        w = run_if_likely(m, size, v, in_a_row);
     }
     w
 }

@@ -4,5 +4,6 @@
 #![tactic(auto)]
 
 pub mod chain;
+pub mod marked;
 pub mod scratch;
 pub mod spares;

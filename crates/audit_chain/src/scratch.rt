@@ -10,10 +10,8 @@ pub fn clear(scratch: &mut [u32], max_allocs: u32)
     ensures { scratch.new ≡ cleared max_allocs scratch.old }
 {
     let n = max_allocs as usize;
-    let mut i: usize = 0;
-    while i < n {
+    for i in 0..n {
         scratch[i] = 0;
-        i += 1;
     }
 }
 

@@ -5,6 +5,7 @@ ghost use Rattle.audit_words.specs.Spares.{good_spare, mark_from};
 
 use answers::Handle;
 use records::nodes;
+use records::nodes::Field;
 
 fn good_spare(nodes: &[u32], scratch: &[u32], max_allocs: u32, r: Handle) -> bool
     requires has_room { HasRoom max_allocs nodes.now }
@@ -17,7 +18,7 @@ fn good_spare(nodes: &[u32], scratch: &[u32], max_allocs: u32, r: Handle) -> boo
     if crate::scratch::marked(scratch, r) != 0 {
         return false;
     }
-    nodes::word(nodes, r, nodes::USED) == 0
+    nodes::word(nodes, r, Field::Used) == 0
 }
 
 // The first `spares` words of the pile, each marked as it is met; false at the first bad one.
@@ -34,14 +35,12 @@ pub fn mark_spares(
     ensures value { result ≡ (mark_from spares nodes.now free_nodes.now max_allocs 0 scratch.old).fine }
     ensures scratch_after { scratch.new ≡ (mark_from spares nodes.now free_nodes.now max_allocs 0 scratch.old).marks }
 {
-    let mut i: u32 = 0;
-    while i < spares {
+    for i in 0..spares {
         let r = records::pile::spare(free_nodes, i);
         if !good_spare(nodes, scratch, max_allocs, r) {
             return false;
         }
         crate::scratch::mark(scratch, r);
-        i += 1;
     }
     true
 }

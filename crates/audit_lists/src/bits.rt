@@ -31,9 +31,7 @@ fn leaf_of(bin_indices: &[u32; 256], t: u32) -> u32
     ensures { result ≡ leaf_of edition32 bin_indices.now t }
 {
     let mut m: u32 = 0;
-    let mut i: u32 = 8;
-    while 0 < i {
-        i -= 1;
+    for i in (0..8u32).rev() {
         let c = (8 * t + i) as usize;
         m = m * 2 + head_bit(bin_indices[c]);
     }
@@ -44,9 +42,7 @@ fn top_of(used_bins: &[u8; 32]) -> u32
     ensures { result ≡ top_of used_bins.now }
 {
     let mut m: u32 = 0;
-    let mut t: u32 = 32;
-    while 0 < t {
-        t -= 1;
+    for t in (0..32u32).rev() {
         let i = t as usize;
         m = m * 2 + non_zero(used_bins[i]);
     }
@@ -56,13 +52,11 @@ fn top_of(used_bins: &[u8; 32]) -> u32
 fn leaves_agree(bin_indices: &[u32; 256], used_bins: &[u8; 32]) -> bool
     ensures { result ≡ leaves_from edition32 32 bin_indices.now used_bins.now 0 }
 {
-    let mut t: u32 = 0;
-    while t < 32 {
+    for t in 0..32u32 {
         let i = t as usize;
-        if bitmap::search::wide(used_bins[i]) != leaf_of(bin_indices, t) {
+        if u32::from(used_bins[i]) != leaf_of(bin_indices, t) {
             return false;
         }
-        t += 1;
     }
     true
 }

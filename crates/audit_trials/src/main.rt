@@ -4,27 +4,12 @@
 mod parts;
 mod rows;
 
-use streams::STDOUT_FILENO;
+use oracle_lists::input;
+use rows::Comparison;
+use std::io;
 
-// A line: a text, then a number.
-fn line(text: &[u8], n: u64) {
-    io::write_all(STDOUT_FILENO, text);
-    io::print_decimal(STDOUT_FILENO, n);
-    io::write_all(STDOUT_FILENO, b"\n");
-}
-
-fn main() {
-    let comparison = rows::compare_input();
-    let tally = comparison.tally;
-    line(b"rows ", tally.rows);
-    line(b"agreed ", tally.agreed);
-    line(b"listed differences ", tally.listed);
-    line(b"other ", tally.other);
-    if tally.other != 0 {
-        line(b"first at row ", tally.first);
-    }
-    let reader = comparison.reader;
-    if !reader.ends_well() {
-        line(b"spoiled after row ", tally.rows);
-    }
+fn main(rt: HostRuntime) -> io::Result<()> {
+    let mut comparison = Comparison::new();
+    input::for_each_block(&rt, |bytes| comparison.feed_all(bytes));
+    input::print_outcome(&rt, comparison.tally, comparison.reader)
 }

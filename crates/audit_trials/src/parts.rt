@@ -7,65 +7,46 @@ use audit_verdicts::State;
 use oracle_lists::tally::Verdict;
 use records::totals::Totals;
 
-// A word that has no place differs from every list.
-fn placed(has_place: bool) -> Verdict
-    ensures { result ≡ placed_if has_place }
-{
-    if has_place {
-        return Verdict::Agrees;
-    }
-    Verdict::Differs
-}
-
 // The scalars in the order of their declaration; another index changes none.
+#[tactic(auto, unfolding(crate::specs::Placed::total_put))]
 fn with_total(t: Totals, i: u32, v: u32) -> Totals
     ensures { result ≡ total_put t i v }
 {
-    if i == 0 {
-        return t.with_size(v);
+    match i {
+        0 => t.with_size(v),
+        1 => t.with_max_allocs(v),
+        2 => t.with_free_storage(v),
+        3 => t.with_free_offset(v),
+        4 => t.with_used_bins_top(v),
+        _ => t,
     }
-    if i == 1 {
-        return t.with_max_allocs(v);
-    }
-    if i == 2 {
-        return t.with_free_storage(v);
-    }
-    if i == 3 {
-        return t.with_free_offset(v);
-    }
-    if i == 4 {
-        return t.with_used_bins_top(v);
-    }
-    t
 }
 
 pub fn put_total(state: State, i: u32, v: u32) -> State
     ensures { result ≡ state_put state i v }
 {
-    let before = state.totals;
-    let totals = with_total(before, i, v);
     State {
-        totals,
-        nodes: state.nodes,
-        pile: state.pile,
-        scratch: state.scratch,
+        totals: with_total(state.totals, i, v),
+        ..state
     }
 }
 
 pub fn total_placed(i: u32) -> Verdict
     ensures { result ≡ placed_if (ltb i 5) }
 {
-    placed(i < 5)
+    Verdict::from(i < 5)
 }
 
-pub fn put_head(heads: &mut [u32; 256], i: u32, v: u32) -> Verdict
-    ensures { (result ≡ placed_if (ltb i 256)) × (heads.new ≡ cond (ltb i 256) (set heads.old i v) heads.old) }
+// A word of a table; one that has no place differs from every list.
+pub fn put<T: Copy>(table: &mut [T], i: u32, v: T) -> Verdict
+    ensures placed { result ≡ placed_if (ltb i (length table.old)) }
+    ensures put { table.new ≡ set table.old i v }
 {
     let at = i as usize;
-    if 256 <= at {
+    if table.len() <= at {
         return Verdict::Differs;
     }
-    heads[at] = v;
+    table[at] = v;
     Verdict::Agrees
 }
 
@@ -84,28 +65,7 @@ pub fn put_leaf(leaves: &mut [u8; 32], i: u32, v: u32) -> Verdict
     Verdict::Agrees
 }
 
-pub fn put_node(nodes: &mut [u32], i: u32, v: u32) -> Verdict
-    ensures { (result ≡ placed_if (ltb i (length nodes.old))) × (nodes.new ≡ set nodes.old i v) }
-{
-    let at = i as usize;
-    if nodes.len() <= at {
-        return Verdict::Differs;
-    }
-    nodes[at] = v;
-    Verdict::Agrees
-}
-
-pub fn put_spare(pile: &mut [u32], i: u32, v: u32) -> Verdict
-    ensures { (result ≡ placed_if (ltb i (length pile.old))) × (pile.new ≡ set pile.old i v) }
-{
-    let at = i as usize;
-    if pile.len() <= at {
-        return Verdict::Differs;
-    }
-    pile[at] = v;
-    Verdict::Agrees
-}
-
+// This and the four below are alike, and five: the promise of each names another table, `audit_number .. (set ..) ..`, so that five would stay round one.
 pub fn spoil_total(
     state: State,
     i: u32,

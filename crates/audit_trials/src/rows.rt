@@ -5,197 +5,110 @@ use crate::parts;
 use audit_verdicts::State;
 use oracle_lists::rows::Reader;
 use oracle_lists::tally::{Tally, Verdict};
-use streams::STDIN_FILENO;
 
 // The list read so far: the row that is being read, the tally of those before it, and the store that they made.
 #[derive(Clone, Copy)]
 pub struct Comparison {
     pub reader: Reader,
     pub tally: Tally,
-    pub state: State,
+    state: State,
+    heads: [u32; 256],
+    leaves: [u8; 32],
+    nodes: [u32; 96],
+    pile: [u32; 16],
 }
 
 impl Comparison {
-    fn new() -> Comparison {
+    pub fn new() -> Comparison {
         Comparison {
             reader: Reader::new(),
             tally: Tally::new(),
             state: State::new(),
+            heads: [0; 256],
+            leaves: [0; 32],
+            nodes: [0; 96],
+            pile: [0; 16],
         }
     }
-}
 
-// A part's letter, an index and a value. The scalars are not lent, and are put in `after`.
-fn put(
-    row: Reader,
-    heads: &mut [u32; 256],
-    leaves: &mut [u8; 32],
-    nodes: &mut [u32],
-    pile: &mut [u32],
-) -> Verdict {
-    if row.letter == b't' {
-        return parts::total_placed(row.c);
-    }
-    if row.letter == b'h' {
-        return parts::put_head(heads, row.c, row.d);
-    }
-    if row.letter == b'b' {
-        return parts::put_leaf(leaves, row.c, row.d);
-    }
-    if row.letter == b'n' {
-        return parts::put_node(nodes, row.c, row.d);
-    }
-    if row.letter == b'p' {
-        return parts::put_spare(pile, row.c, row.d);
-    }
-    Verdict::Differs
-}
-
-// A part's letter, an index, a value and an answer; or the lengths of a new store.
-fn spoil(
-    state: State,
-    row: Reader,
-    heads: &mut [u32; 256],
-    leaves: &mut [u8; 32],
-    nodes: &mut [u32],
-    pile: &mut [u32],
-) -> Verdict {
-    if row.letter == b't' {
-        return parts::spoil_total(state, row.b, row.c, row.d, heads, leaves, nodes, pile);
-    }
-    if row.letter == b'h' {
-        return parts::spoil_head(state, row.b, row.c, row.d, heads, leaves, nodes, pile);
-    }
-    if row.letter == b'b' {
-        return parts::spoil_leaf(state, row.b, row.c, row.d, heads, leaves, nodes, pile);
-    }
-    if row.letter == b'n' {
-        return parts::spoil_node(state, row.b, row.c, row.d, heads, leaves, nodes, pile);
-    }
-    if row.letter == b'p' {
-        return parts::spoil_spare(state, row.b, row.c, row.d, heads, leaves, nodes, pile);
-    }
-    if row.letter == b'l' {
-        return Verdict::Agrees;
-    }
-    Verdict::Differs
-}
-
-// A whole row.
-fn judge_row(
-    state: State,
-    row: Reader,
-    heads: &mut [u32; 256],
-    leaves: &mut [u8; 32],
-    nodes: &mut [u32],
-    pile: &mut [u32],
-) -> Verdict {
-    if row.fields == 3 {
-        return spoil(state, row, heads, leaves, nodes, pile);
-    }
-    if row.fields == 2 {
-        return put(row, heads, leaves, nodes, pile);
-    }
-    if row.letter == b'a' {
-        if row.fields == 1 {
-            return audit_verdicts::judge(state, row.d, heads, leaves, nodes, pile);
+    // A part's letter, an index and a value. The scalars are put in `after`.
+    fn put(&mut self, row: Reader) -> Verdict {
+        match row.letter {
+            b't' => parts::total_placed(row.c),
+            b'h' => parts::put(&mut self.heads, row.c, row.d),
+            b'b' => parts::put_leaf(&mut self.leaves, row.c, row.d),
+            b'n' => parts::put(&mut self.nodes, row.c, row.d),
+            b'p' => parts::put(&mut self.pile, row.c, row.d),
+            _ => Verdict::Differs,
         }
     }
-    Verdict::Differs
+
+    // A part's letter, an index, a value and an answer; or the lengths of a new store.
+    fn spoil(&mut self, row: Reader) -> Verdict {
+        let state = self.state;
+        let (i, v, said) = (row.b, row.c, row.d);
+        let heads = &mut self.heads;
+        let leaves = &mut self.leaves;
+        let nodes = &mut self.nodes;
+        let pile = &mut self.pile;
+        match row.letter {
+            b't' => parts::spoil_total(state, i, v, said, heads, leaves, nodes, pile),
+            b'h' => parts::spoil_head(state, i, v, said, heads, leaves, nodes, pile),
+            b'b' => parts::spoil_leaf(state, i, v, said, heads, leaves, nodes, pile),
+            b'n' => parts::spoil_node(state, i, v, said, heads, leaves, nodes, pile),
+            b'p' => parts::spoil_spare(state, i, v, said, heads, leaves, nodes, pile),
+            b'l' => Verdict::Agrees,
+            _ => Verdict::Differs,
+        }
+    }
+
+    // A whole row.
+    fn judge_row(&mut self, row: Reader) -> Verdict {
+        let state = self.state;
+        match (row.letter, row.fields) {
+            (_, 3) => self.spoil(row),
+            (_, 2) => self.put(row),
+            (b'a', 1) => audit_verdicts::judge(
+                state,
+                row.d,
+                &self.heads,
+                &self.leaves,
+                &self.nodes,
+                &self.pile,
+            ),
+            _ => Verdict::Differs,
+        }
+    }
+
+    // One byte more; where it ends a row, the row is judged.
+    fn feed(&mut self, byte: u8) {
+        let reader = self.reader.feed(byte);
+        self.reader = reader;
+        if reader.is_whole() {
+            let verdict = self.judge_row(reader);
+            self.tally = self.tally.count(verdict);
+            self.state = after(self.state, reader);
+        }
+    }
+
+    // All of the bytes, in order.
+    pub fn feed_all(&mut self, bytes: &[u8]) {
+        for byte in bytes {
+            self.feed(*byte);
+        }
+    }
 }
 
 // The store after a whole row, but for its arrays: with new lengths, or with a scalar put.
 fn after(state: State, row: Reader) -> State {
-    if row.letter == b'l' {
-        if row.fields == 3 {
-            let totals = state.totals;
-            return State {
-                totals,
-                nodes: row.b,
-                pile: row.c,
-                scratch: row.d,
-            };
-        }
+    match (row.letter, row.fields) {
+        (b'l', 3) => State {
+            nodes: row.b,
+            pile: row.c,
+            scratch: row.d,
+            ..state
+        },
+        (b't', 2) => parts::put_total(state, row.c, row.d),
+        _ => state,
     }
-    if row.letter == b't' {
-        if row.fields == 2 {
-            return parts::put_total(state, row.c, row.d);
-        }
-    }
-    state
-}
-
-// One byte more; where it ends a row, the row is judged.
-fn feed(
-    comparison: Comparison,
-    byte: u8,
-    heads: &mut [u32; 256],
-    leaves: &mut [u8; 32],
-    nodes: &mut [u32],
-    pile: &mut [u32],
-) -> Comparison {
-    let tally = comparison.tally;
-    let state = comparison.state;
-    let before = comparison.reader;
-    let reader = before.feed(byte);
-    if reader.is_whole() {
-        let verdict = judge_row(state, reader, heads, leaves, nodes, pile);
-        return Comparison {
-            reader,
-            tally: tally.count(verdict),
-            state: after(state, reader),
-        };
-    }
-    Comparison {
-        reader,
-        tally,
-        state,
-    }
-}
-
-// All of the bytes, in order.
-fn feed_all(
-    start: Comparison,
-    bytes: &[u8],
-    heads: &mut [u32; 256],
-    leaves: &mut [u8; 32],
-    nodes: &mut [u32],
-    pile: &mut [u32],
-) -> Comparison {
-    let mut comparison = start;
-    let n = bytes.len();
-    let mut i = 0;
-    while i < n {
-        comparison = feed(comparison, bytes[i], heads, leaves, nodes, pile);
-        i += 1;
-    }
-    comparison
-}
-
-// The list to its end. A proved loop has to end, and nothing says that the input does: so turns are counted down, from a number that no
-// run uses up.
-pub fn compare_input() -> Comparison {
-    let mut heads = [0u32; 256];
-    let mut leaves = [0u8; 32];
-    let mut nodes = [0u32; 96];
-    let mut pile = [0u32; 16];
-    let mut comparison = Comparison::new();
-    let mut buffer = io::large_buffer();
-    let mut turns = u64::MAX;
-    while turns > 0 {
-        let n = io::read_full(STDIN_FILENO, &mut buffer);
-        if n == 0 {
-            return comparison;
-        }
-        comparison = feed_all(
-            comparison,
-            &buffer[..n],
-            &mut heads,
-            &mut leaves,
-            &mut nodes,
-            &mut pile,
-        );
-        turns -= 1;
-    }
-    comparison
 }

@@ -5,7 +5,7 @@ ghost use Rattle.std.specs.Prelude.{◌≡◌};
 ghost use Rattle.answers.specs.Answers.{audit_says};
 ghost use Rattle.audit_verdicts.specs.Audited.{no_store_yet, number_in, number_with, audit_number, OnlyIf};
 
-use answers::AuditAnswer;
+use answers::Refusal;
 use oracle_lists::tally::Verdict;
 use records::totals::Totals;
 
@@ -20,7 +20,8 @@ pub struct State {
 // What stands in every word of the scratch before an audit.
 pub const BEFORE: u32 = 7;
 
-// What the lengths give where the arrays are too short for them: the number of no answer.
+// What the lengths give where the arrays are too short for them: the number of no answer. No Option, since a row may say this number, and what the
+// program answers to it may not change (`audit_number`).
 const NO_AUDIT: u32 = 4294967295;
 
 impl State {
@@ -37,12 +38,12 @@ impl State {
 }
 
 // 0 for yes, or the refusal's number.
-fn number(answer: AuditAnswer) -> u32
+fn number(answer: Result<(), Refusal>) -> u32
     ensures { result ≡ number_in (audit_says answer) }
 {
     match answer {
-        AuditAnswer::Sound => 0,
-        AuditAnswer::Refused(why) => why.number(),
+        Ok(()) => 0,
+        Err(why) => why.number(),
     }
 }
 
@@ -83,33 +84,27 @@ fn audit(
 
 // How many words of the scratch an audit clears: as many as there are records, but none where the count or a length is refused.
 fn cleared(count: u32, number: u32) -> u32 {
-    if number == 2 {
-        return 0;
+    if number == 2 || count < 2 || records::gate::MAX_RECORDS < count {
+        0
+    } else {
+        count
     }
-    if count < 2 {
-        return 0;
-    }
-    if records::gate::MAX_RECORDS < count {
-        return 0;
-    }
-    count
 }
 
 // A word of the scratch is as it must be: 0 if it is one of those, and otherwise as it was.
 fn is_right(word: u32, i: usize, words: u32) -> bool {
     if i < words as usize {
-        return word == 0;
+        word == 0
+    } else {
+        word == BEFORE
     }
-    word == BEFORE
 }
 
 fn is_cleared(scratch: &[u32; 16], words: u32) -> bool {
-    for i in 0..16 {
-        if !is_right(scratch[i], i, words) {
-            return false;
-        }
-    }
-    true
+    scratch
+        .iter()
+        .enumerate()
+        .all(|(i, word)| is_right(*word, i, words))
 }
 
 // The audit's number is the one that is expected, and its scratch is left as it must be.
@@ -129,8 +124,5 @@ pub fn judge(
     if found != expected {
         return Verdict::Differs;
     }
-    if !is_cleared(&scratch, cleared(totals.max_allocs, found)) {
-        return Verdict::Differs;
-    }
-    Verdict::Agrees
+    Verdict::from(is_cleared(&scratch, cleared(totals.max_allocs, found)))
 }

@@ -3,7 +3,8 @@
 #![tactic(auto)]
 
 // How far along the neighbour chain: the record before, the next one, where that must begin, the used word of the one before, and what was
-// met.
+// met. These are words as they stand in tables that may be spoiled, any number, as `advanced` and the theorems of the audit have them; so they are no enum
+// and no handles.
 #[derive(Clone, Copy)]
 pub struct Walk {
     pub prev: u32,

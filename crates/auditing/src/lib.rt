@@ -10,10 +10,10 @@ ghost use Rattle.audit_words.specs.Audit.{records_are_sound, words_are_sound, be
 ghost use Rattle.audit_words.specs.Promise.{AuditPromise};
 ghost use Rattle.answers.specs.Answers.{audit_says};
 
-use answers::{AuditAnswer, Refusal};
+use answers::Refusal;
+use audit_chain::marked::Marked;
 use audit_chain::{chain, scratch, spares};
 use audit_lists::{bits, lists};
-use records::gate::Gate;
 use records::totals::Totals;
 
 // Chain, lists and bits, once the spare records are marked.
@@ -31,12 +31,17 @@ fn records_are_sound(
     ensures { (pile : List ℕ) → result
         ≡ records_are_sound edition32 (words_of t bin_indices.now used_bins.now nodes.now pile) scratch.now }
 {
-    let first = chain::first_record(nodes, scratch, t.max_allocs);
-    let end = chain::walk_from(nodes, scratch, t, first);
+    let marked = Marked {
+        nodes,
+        scratch,
+        max_allocs: t.max_allocs,
+    };
+    let first = chain::first_record(marked);
+    let end = chain::walk_from(marked, t.size, first);
     if !chain::walk_ends(t, end) {
         return false;
     }
-    if !lists::lists_are_sound(nodes, scratch, bin_indices, t.max_allocs, end.frees) {
+    if !lists::lists_are_sound(marked, bin_indices, end.frees) {
         return false;
     }
     bits::bits_agree(bin_indices, used_bins, t.used_bins_top)
@@ -69,13 +74,13 @@ fn words_are_sound(
     records_are_sound(t, bin_indices, used_bins, nodes, scratch)
 }
 
-fn verdict(sound: bool) -> AuditAnswer
+fn verdict(sound: bool) -> Result<(), Refusal>
     ensures { audit_says result ≡ Rattle.audit_words.specs.Audit.verdict sound }
 {
     if sound {
-        return AuditAnswer::Sound;
+        return Ok(());
     }
-    AuditAnswer::Refused(Refusal::Unsound)
+    Err(Refusal::Unsound)
 }
 
 // The scratch's length comes last; its words are cleared before and after.
@@ -86,7 +91,7 @@ fn behind_gate(
     nodes: &[u32],
     free_nodes: &[u32],
     scratch: &mut [u32],
-) -> AuditAnswer
+) -> Result<(), Refusal>
     requires { Room edition32 t.max_allocs (length nodes.now) (length free_nodes.now) }
     ensures { (audit_says result, scratch.new)
         ≡ behind_gate edition32
@@ -95,7 +100,7 @@ fn behind_gate(
 {
     let n = t.max_allocs;
     if scratch.len() < n as usize {
-        return AuditAnswer::Refused(Refusal::TableTooShort);
+        return Err(Refusal::TableTooShort);
     }
     scratch::clear(scratch, n);
     let sound = words_are_sound(t, bin_indices, used_bins, nodes, free_nodes, scratch);
@@ -103,15 +108,10 @@ fn behind_gate(
     verdict(sound)
 }
 
-// An array tells the proof its length where it is lent as a slice; there is nothing to do.
-fn as_slices(_heads: &[u32], _leaves: &[u8]) {}
-
 // What the types of a head's parts say of its words, whatever tables go with them.
 fn of_head(t: Totals, bin_indices: &[u32; 256], used_bins: &[u8; 32])
     ensures { (nodes pile : List ℕ) → OfHead edition32 (words_of t bin_indices.now used_bins.now nodes pile) }
-{
-    as_slices(bin_indices, used_bins)
-}
+{}
 
 // Sound, or the refusal: 6 for the count, 2 for a table too short, 6 for words that stand for no ledger.
 pub fn audit(
@@ -121,14 +121,12 @@ pub fn audit(
     nodes: &[u32],
     free_nodes: &[u32],
     scratch: &mut [u32],
-) -> AuditAnswer
+) -> Result<(), Refusal>
     ensures { AuditPromise edition32
         (words_of t bin_indices.now used_bins.now nodes.now free_nodes.now)
         scratch.old scratch.new (audit_says result) }
 {
     of_head(t, bin_indices, used_bins);
-    match records::gate::test(t.max_allocs, nodes, free_nodes, Refusal::Unsound) {
-        Gate::Shut(why) => AuditAnswer::Refused(why),
-        Gate::Open => behind_gate(t, bin_indices, used_bins, nodes, free_nodes, scratch),
-    }
+    records::gate::test(t.max_allocs, nodes, free_nodes, Refusal::Unsound)?;
+    behind_gate(t, bin_indices, used_bins, nodes, free_nodes, scratch)
 }

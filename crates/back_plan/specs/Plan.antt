@@ -1,24 +1,24 @@
 -- A hand-back's plan as the model's. Assumes nothing.
-use Rattle.std.specs.Prelude.{cond, ◌≡◌, List, ℕ, ◌+◌}
+use Rattle.std.specs.Prelude.{cond, ◌≡◌, List, ℕ, ◌+◌, Result, Ok, Err}
 use Rattle.tables.specs.Layout.{data_offset, data_size, word}
 use Rattle.tables.specs.HandBack.{BackPlan, stop, merge, Merged, is_free}
+use Rattle.answers.specs.declared.Refusal.{Refusal}
 use Rattle.answers.specs.Refusals.{number_of}
 use Rattle.back_plan.specs.declared.Merged.{Merged as Joined}
 use Rattle.back_plan.specs.declared.Side.{Side}
 use Rattle.back_plan.specs.declared.Planned.{Planned}
-use Rattle.back_plan.specs.declared.Planned.TheVariants.{Stop, Merge}
 
 abbrev pub merged_in : Joined → Merged
 merged_in m = record { length = m.length.0; start = m.start; before = m.before.0; after = m.after.0; total = m.total }
 
-abbrev pub plan_of : Planned → BackPlan
-plan_of (Stop why) = stop (number_of why)
-plan_of (Merge p x m) = merge p.link.0 x.link.0 p.free x.free (merged_in m)
+abbrev pub plan_of : Result Planned Refusal → BackPlan
+plan_of (Err why) = stop (number_of why)
+plan_of (Ok g) = merge g.prev.link.0 g.next.link.0 g.prev.free g.next.free (merged_in g.merged)
 
 -- a plan that goes on puts the merged region under record r
-abbrev pub UnderRecord : ℕ → Planned → Type 0
-UnderRecord r (Stop why) = Unit {0}
-UnderRecord r (Merge p x m) = m.record.0 ≡ r
+abbrev pub UnderRecord : ℕ → Result Planned Refusal → Type 0
+UnderRecord r (Err why) = Unit {0}
+UnderRecord r (Ok g) = g.merged.record.0 ≡ r
 
 -- a neighbour by its link, and what it adds to a region at this offset: `outward` is the word that links on beyond it
 pub record Beside (nodes : List ℕ) (count link outward offset : ℕ) (s : Side) : Type 0 where

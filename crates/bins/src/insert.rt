@@ -7,7 +7,7 @@ ghost use Rattle.records.specs.InWords.{words_of, bound, HasRoom, InTable};
 
 use answers::Handle;
 use records::nodes;
-use records::nodes::NONE;
+use records::nodes::{Field, NONE};
 use records::totals::Totals;
 use small_float::{Class, Size};
 
@@ -16,8 +16,8 @@ fn write_span(nodes: &mut [u32], m: Handle, size: Size, offset: u32)
     requires { InTable m.0 nodes.old }
     ensures { nodes.new ≡ put m.0 data_size size.0 (put m.0 data_offset offset nodes.old) }
 {
-    nodes::put(nodes, m, nodes::DATA_OFFSET, offset);
-    nodes::put(nodes, m, nodes::DATA_SIZE, size.0);
+    nodes::put(nodes, m, Field::DataOffset, offset);
+    nodes::put(nodes, m, Field::DataSize, size.0);
 }
 
 // The links of record m: in the list of its class, and to its neighbours.
@@ -34,10 +34,10 @@ fn write_links(
         ≡ put m.0 neighbor_next next.0 (put m.0 neighbor_prev prev.0
         (put m.0 bin_next list_next.0 (put m.0 bin_prev list_prev.0 nodes.old))) }
 {
-    nodes::put(nodes, m, nodes::BIN_LIST_PREV, list_prev.0);
-    nodes::put(nodes, m, nodes::BIN_LIST_NEXT, list_next.0);
-    nodes::put(nodes, m, nodes::NEIGHBOR_PREV, prev.0);
-    nodes::put(nodes, m, nodes::NEIGHBOR_NEXT, next.0);
+    nodes::put(nodes, m, Field::BinListPrev, list_prev.0);
+    nodes::put(nodes, m, Field::BinListNext, list_next.0);
+    nodes::put(nodes, m, Field::NeighborPrev, prev.0);
+    nodes::put(nodes, m, Field::NeighborNext, next.0);
 }
 
 // The seven words of record m, which goes above the old top of its list.
@@ -58,7 +58,7 @@ fn write_record(
 {
     write_span(nodes, m, size, offset);
     write_links(nodes, m, Handle(NONE), old_top, prev, next);
-    nodes::put(nodes, m, nodes::USED, 0);
+    nodes::put(nodes, m, Field::Used, 0);
 }
 
 // On top of its class: the old top, if it is a record, links back to m; if it is none, the class was empty and gets its bits. One test tells both.
@@ -79,7 +79,7 @@ fn put_on_top(
         × (nodes.new ≡ put_link max_allocs old_top.0 bin_prev m.0 nodes.old) }
 {
     if old_top.0 < max_allocs {
-        nodes::put(nodes, old_top, nodes::BIN_LIST_PREV, m.0);
+        nodes::put(nodes, old_top, Field::BinListPrev, m.0);
         return used_bins_top;
     }
     bitmap::bits::mark(used_bins, used_bins_top, c)
@@ -90,8 +90,8 @@ fn join_neighbors(nodes: &mut [u32], max_allocs: u32, m: Handle, prev: Handle, n
     requires { HasRoom max_allocs nodes.old }
     ensures { nodes.new ≡ join_nodes (bound max_allocs) m.0 prev.0 next.0 nodes.old }
 {
-    nodes::put_link(nodes, max_allocs, prev, nodes::NEIGHBOR_NEXT, m);
-    nodes::put_link(nodes, max_allocs, next, nodes::NEIGHBOR_PREV, m);
+    nodes::put_link(nodes, max_allocs, prev, Field::NeighborNext, m);
+    nodes::put_link(nodes, max_allocs, next, Field::NeighborPrev, m);
 }
 
 fn insert_into_class(

@@ -5,6 +5,7 @@ ghost use Rattle.records.specs.InWords.{words_of, bound, HasRoom, InTable};
 
 use answers::Handle;
 use records::nodes;
+use records::nodes::Field;
 use records::totals::Totals;
 use small_float::{Class, Size};
 
@@ -27,15 +28,15 @@ pub fn remove_from_class(
 {
     let max_allocs = t.max_allocs;
     if prev.0 < max_allocs {
-        nodes::put(nodes, prev, nodes::BIN_LIST_NEXT, next.0);
-        nodes::put_link(nodes, max_allocs, next, nodes::BIN_LIST_PREV, prev);
+        nodes::put(nodes, prev, Field::BinListNext, next.0);
+        nodes::put_link(nodes, max_allocs, next, Field::BinListPrev, prev);
         return t;
     }
     // the first of its list
     let i = c.0 as usize;
     bin_indices[i] = next.0;
     if next.0 < max_allocs {
-        nodes::put(nodes, next, nodes::BIN_LIST_PREV, prev.0);
+        nodes::put(nodes, next, Field::BinListPrev, prev.0);
         return t;
     }
     // and the only one
@@ -57,9 +58,9 @@ pub fn remove_node_from_bin(
         words_of result bin_indices.new used_bins.new nodes.new ps
         ≡ unlink (bound t.max_allocs) (words_of t bin_indices.old used_bins.old nodes.old ps) node.0 }
 {
-    let size = Size(nodes::word(nodes, node, nodes::DATA_SIZE));
+    let size = Size(nodes::word(nodes, node, Field::DataSize));
     let class = crate::class::class_of(size);
-    let prev = Handle(nodes::word(nodes, node, nodes::BIN_LIST_PREV));
-    let next = Handle(nodes::word(nodes, node, nodes::BIN_LIST_NEXT));
+    let prev = Handle(nodes::word(nodes, node, Field::BinListPrev));
+    let next = Handle(nodes::word(nodes, node, Field::BinListNext));
     remove_from_class(bin_indices, used_bins, nodes, t, class, prev, next)
 }

@@ -5,7 +5,8 @@ ghost use Rattle.bitmap.specs.InBits.{Marked, Unmarked};
 
 use small_float::Class;
 
-// Class c holds something: its bit is set, and the bit of its leaf byte.
+// Class c holds something: its bit is set, and the bit of its leaf byte. A `Class` is any number, as `float_to_uint` takes one; so that c is one of the head's
+// is asked here, and in `bins`, and is in no type: each of the five that ask it would make a value of a second one.
 pub fn mark(used_bins: &mut [u8; 32], used_bins_top: u32, c: Class) -> u32
     requires { c.0 < 256 }
     ensures { Marked used_bins_top c.0 used_bins.old result used_bins.new }

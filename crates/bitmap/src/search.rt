@@ -6,19 +6,13 @@ ghost use Rattle.bitmap.specs.InBits.{Tells};
 
 use small_float::Class;
 
-#[derive(Clone, Copy)]
-pub enum Found {
-    Lowest(Class),
-    // no class from there on holds anything
+// Why a search finds no class.
+#[derive(Clone, Copy, Debug, PartialEq, Eq)]
+pub enum NotFound {
+    // none from there on holds anything
     NoClass,
     // the bits contradict each other: a top bit is set over a leaf byte of 0
     BadBits,
-}
-
-pub fn wide(x: u8) -> u32
-    ensures { (result ≡ x) × (result < 256) }
-{
-    x as u32
 }
 
 // find_lowest_bit_set_after of the Rust: at or after bit i; 32 where there is none.
@@ -42,28 +36,28 @@ fn none_from(m: u32, i: u32) -> bool
 }
 
 // The lowest class above the top bin of c: in the next top bin that holds something, and there from leaf 0 on, whatever leaf c has.
-fn lowest_above(used_bins: &[u8; 32], used_bins_top: u32, c: Class) -> Found
+fn lowest_above(used_bins: &[u8; 32], used_bins_top: u32, c: Class) -> Result<Class, NotFound>
     requires { c.0 < classes_in_use }
     ensures { Tells (low_in_bin used_bins.now (low_from used_bins_top (c.0 / 8 + 1))) result }
 {
     let from = c.0;
     let above = from / 8 + 1;
     if none_from(used_bins_top, above) {
-        return Found::NoClass;
+        return Err(NotFound::NoClass);
     }
     let t = lowest_bit_set_from(used_bins_top, above);
     let i = t as usize;
-    let m = wide(used_bins[i]);
+    let m = u32::from(used_bins[i]);
     if m == 0 {
-        return Found::BadBits;
+        return Err(NotFound::BadBits);
     }
     let class = 8 * t + lowest_bit_set_from(m, 0);
-    Found::Lowest(Class(class))
+    Ok(Class(class))
 }
 
 // The lowest class from c on that holds something: in the top bin of c from its own leaf on, or above it. The top bin of a class that a region can have
 // is not the last, so there is one above it.
-pub fn find_class(used_bins: &[u8; 32], used_bins_top: u32, c: Class) -> Found
+pub fn find_class(used_bins: &[u8; 32], used_bins_top: u32, c: Class) -> Result<Class, NotFound>
     requires { c.0 < classes_in_use }
     ensures { Tells (find_class used_bins.now used_bins_top c.0) result }
 {
@@ -71,12 +65,12 @@ pub fn find_class(used_bins: &[u8; 32], used_bins_top: u32, c: Class) -> Found
     let t = from / 8;
     let leaf = from % 8;
     let i = t as usize;
-    let m = wide(used_bins[i]);
+    let m = u32::from(used_bins[i]);
     if none_from(m, leaf) {
         return lowest_above(used_bins, used_bins_top, c);
     }
     let class = 8 * t + lowest_bit_set_from(m, leaf);
-    Found::Lowest(Class(class))
+    Ok(Class(class))
 }
 
 // The highest set bit of a word that is not 0.

@@ -13,8 +13,8 @@ pub enum Answer {
     Regions(u64, u32),
     // how many classes hold something
     Held(u32),
-    // the refusal of this number
+    // the refusal of this number, as a row has it and `x_agrees_with` and `listed_is_5_or_8` speak of it
     Refused(u32),
-    // nothing was asked
+    // nothing that a row says: a class was asked for that no report has, a case of `told`
     Nothing,
 }

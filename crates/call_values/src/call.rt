@@ -15,6 +15,4 @@ pub enum Call {
     ClassOf(u32),
     // a full report, of which is asked how many classes hold something
     ClassesHeld,
-    // no call
-    Nothing,
 }

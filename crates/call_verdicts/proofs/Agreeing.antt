@@ -4,6 +4,7 @@ use mathlib.Core.Path.{◌≡◌, sym, ◌∙◌}
 use mathlib.Core.Logic.{◌⊎◌, inl, inr}
 use mathlib.Core.Bool.{cond}
 use Prim.Native.Nat.{ℕ}
+use Rattle.std.specs.Prelude.{Some}
 use lib.Dec.{eqb}
 use Rattle.basics.proofs.Clash.{clash}
 use Rattle.basics.proofs.Decided.{same?, same, differ}
@@ -21,7 +22,7 @@ passed a b v e = elim (same? a b) [ same p f ↦ (p, sym (rw f) ∙ e) | differ 
 unlisted : (a b : ℕ) (v : Verdict) → cond (eqb a b) Listed v ≡ Agrees → v ≡ Agrees
 unlisted a b v e = elim (same? a b) [ same p f ↦ clash (cc) | differ p f ↦ sym (rw f) ∙ e ]
 
-pub agrees_only : (r : Reader) (s : Said) → call_verdict r s ≡ Agrees → (r.letter ≡ s.letter) × (r.c ≡ s.c) × (r.d ≡ s.d)
+pub agrees_only : (r : Reader) (s : Said) → call_verdict r (Some s) ≡ Agrees → (r.letter ≡ s.letter) × (r.c ≡ s.c) × (r.d ≡ s.d)
 unfolding call_verdict same_numbers
 agrees_only r s e =
     let by-letter = passed r.letter s.letter _ e in
@@ -60,7 +61,7 @@ in_listed letter d e is = elim (held_or letter 117 _ is) [
   ]
 ]
 
-pub listed_only : (r : Reader) (s : Said) → call_verdict r s ≡ Listed
+pub listed_only : (r : Reader) (s : Said) → call_verdict r (Some s) ≡ Listed
     → (r.letter ≡ s.letter)
     × (r.c ≡ s.c)
     × (((r.letter ≡ 117) ⊎ (r.letter ≡ 109)) ⊎ (((r.letter ≡ 98) ⊎ (r.letter ≡ 119)) × (r.d ≡ s.d)))

@@ -1,5 +1,5 @@
 -- When a row of the list of runs agrees with the row that the port would write, and when it shows a listed difference. Assumes nothing.
-use Rattle.std.specs.Prelude.{cond, eqb}
+use Rattle.std.specs.Prelude.{cond, eqb, Option, None, Some}
 use Rattle.oracle_lists.specs.declared.rows.Reader.{Reader}
 use Rattle.call_verdicts.specs.declared.Said.{Said}
 use Rattle.oracle_lists.specs.declared.tally.Verdict.{Verdict}
@@ -14,9 +14,10 @@ same_numbers r s =
     (cond (eqb r.d s.d) (cond (eqb r.letter 98) Listed (cond (eqb r.letter 119) Listed Agrees)) Differs)))
     Differs
 
--- one form's answer
-unfoldable pub call_verdict : Reader → Said → Verdict
-call_verdict r s = cond (eqb r.letter s.letter) (same_numbers r s) Differs
+-- one form's answer; no row agrees with one that no row says
+unfoldable pub call_verdict : Reader → Option Said → Verdict
+call_verdict r (Some s) = cond (eqb r.letter s.letter) (same_numbers r s) Differs
+call_verdict r None = Differs
 
 -- both forms' verdicts on one row
 abbrev pub both_verdict : Verdict → Verdict → Verdict

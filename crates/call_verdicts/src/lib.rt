@@ -17,57 +17,41 @@ pub struct Said {
 }
 
 // The two last numbers are the same; the last one is not compared where it is a length that the Rust gave and the port does not.
+#[tactic(auto, unfolding(crate::specs::Verdicts::same_numbers))]
 fn judge_numbers(row: Reader, said: Said) -> Verdict
     ensures { result ≡ same_numbers row said }
 {
-    if (row.c as u64) != said.c {
+    if u64::from(row.c) != said.c {
         return Verdict::Differs;
     }
-    if row.letter == b'u' {
-        return Verdict::Listed;
+    match row.letter {
+        b'u' | b'm' => Verdict::Listed,
+        _ if row.d != said.d => Verdict::Differs,
+        b'b' | b'w' => Verdict::Listed,
+        _ => Verdict::Agrees,
     }
-    if row.letter == b'm' {
-        return Verdict::Listed;
-    }
-    if row.d != said.d {
-        return Verdict::Differs;
-    }
-    if row.letter == b'b' {
-        return Verdict::Listed;
-    }
-    if row.letter == b'w' {
-        return Verdict::Listed;
-    }
-    Verdict::Agrees
 }
 
-// One form's answer. The listed differences are rows of spans that the port refuses. `b OFFSET RECORD` and `u OFFSET RECORD LENGTH`: the record is not
+// One form's answer, if there is a row that says it. The listed differences are rows of spans that the port refuses. `b OFFSET RECORD` and `u OFFSET RECORD LENGTH`: the record is not
 // live, and the Rust panics, or gives a length that means nothing. `w OFFSET RECORD` and `m OFFSET RECORD LENGTH`: it is live but starts elsewhere, and the
 // Rust goes by the record alone.
-pub fn judge(row: Reader, said: Said) -> Verdict
+#[tactic(auto, unfolding(crate::specs::Verdicts::call_verdict))]
+pub fn judge(row: Reader, said: Option<Said>) -> Verdict
     ensures { result ≡ call_verdict row said }
 {
-    if row.letter != said.letter {
-        return Verdict::Differs;
+    match said {
+        Some(said) if row.letter == said.letter => judge_numbers(row, said),
+        _ => Verdict::Differs,
     }
-    judge_numbers(row, said)
 }
 
 // Both forms' verdicts on one row: what they are, if they are the same.
 pub fn both(first: Verdict, second: Verdict) -> Verdict
     ensures { result ≡ both_verdict first second }
 {
-    match first {
-        Verdict::Agrees => match second {
-            Verdict::Agrees => Verdict::Agrees,
-            Verdict::Listed => Verdict::Differs,
-            Verdict::Differs => Verdict::Differs,
-        },
-        Verdict::Listed => match second {
-            Verdict::Agrees => Verdict::Differs,
-            Verdict::Listed => Verdict::Listed,
-            Verdict::Differs => Verdict::Differs,
-        },
-        Verdict::Differs => Verdict::Differs,
+    if first == second {
+        first
+    } else {
+        Verdict::Differs
     }
 }

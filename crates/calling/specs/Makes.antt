@@ -7,7 +7,7 @@ use Rattle.tables.specs.Setup.{Lent, lent_of}
 use Rattle.tables.specs.Promise.{Promise, SetupPromise}
 use Rattle.calls.specs.declared.Call.{Call}
 use Rattle.calls.specs.declared.Call.TheVariants.{Take, HandBack, SetUp, Reset}
-use Rattle.calls.specs.declared.Answer as code
+use Rattle.calls.specs.Values as code
 use Rattle.calls.specs.Values.{says}
 use Rattle.records.specs.InWords.{InPlace, placed_words}
 

@@ -8,16 +8,10 @@ ghost use Rattle.calls.specs.declared.Call.TheVariants as call;
 ghost use Rattle.calling.specs.Makes.{Makes};
 
 use answers::Allocation;
-use calls::{Answer, Call};
+use calls::Call;
+use records::answered::Answered;
 use records::totals::Totals;
 use small_float::Size;
-
-// What it answered, and the head's scalars after it.
-#[derive(Clone, Copy)]
-pub struct Called {
-    pub answer: Answer,
-    pub totals: Totals,
-}
 
 fn take(
     size: Size,
@@ -26,18 +20,16 @@ fn take(
     used_bins: &mut [u8; 32],
     nodes: &mut [u32],
     free_nodes: &[u32],
-) -> Called
+) -> Answered<Option<Allocation>>
     ensures { Makes edition32 (call.Take size)
         (words_of t bin_indices.old used_bins.old nodes.old free_nodes.now)
         (words_of result.totals bin_indices.new used_bins.new nodes.new free_nodes.now)
         (says result.answer) }
 {
     let taken = taking::allocate(t, size, bin_indices, used_bins, nodes, free_nodes);
-    let given = taken.answer;
-    let totals = taken.totals;
-    Called {
-        answer: calls::of_take(given),
-        totals,
+    Answered {
+        answer: calls::of_take(taken.answer),
+        totals: taken.totals,
     }
 }
 
@@ -48,18 +40,16 @@ fn hand_back(
     used_bins: &mut [u8; 32],
     nodes: &mut [u32],
     free_nodes: &mut [u32],
-) -> Called
+) -> Answered<Option<Allocation>>
     ensures { Makes edition32 (call.HandBack span)
         (words_of t bin_indices.old used_bins.old nodes.old free_nodes.old)
         (words_of result.totals bin_indices.new used_bins.new nodes.new free_nodes.new)
         (says result.answer) }
 {
     let returned = giving::free(t, span, bin_indices, used_bins, nodes, free_nodes);
-    let given = returned.answer;
-    let totals = returned.totals;
-    Called {
-        answer: calls::of_back(given),
-        totals,
+    Answered {
+        answer: calls::of_done(returned.answer),
+        totals: returned.totals,
     }
 }
 
@@ -71,18 +61,16 @@ fn set_up(
     used_bins: &mut [u8; 32],
     nodes: &mut [u32],
     free_nodes: &mut [u32],
-) -> Called
+) -> Answered<Option<Allocation>>
     ensures { (t : Totals) → Makes edition32 (call.SetUp size count)
         (words_of t bin_indices.old used_bins.old nodes.old free_nodes.old)
         (words_of result.totals bin_indices.new used_bins.new nodes.new free_nodes.new)
         (says result.answer) }
 {
     let started = starting::with_max_allocs(size, count, bin_indices, used_bins, nodes, free_nodes);
-    let given = started.answer;
-    let totals = started.totals;
-    Called {
-        answer: calls::of_start(given),
-        totals,
+    Answered {
+        answer: calls::of_done(started.answer),
+        totals: started.totals,
     }
 }
 
@@ -92,18 +80,16 @@ fn reset(
     used_bins: &mut [u8; 32],
     nodes: &mut [u32],
     free_nodes: &mut [u32],
-) -> Called
+) -> Answered<Option<Allocation>>
     ensures { Makes edition32 call.Reset
         (words_of t bin_indices.old used_bins.old nodes.old free_nodes.old)
         (words_of result.totals bin_indices.new used_bins.new nodes.new free_nodes.new)
         (says result.answer) }
 {
     let started = starting::reset(t, bin_indices, used_bins, nodes, free_nodes);
-    let given = started.answer;
-    let totals = started.totals;
-    Called {
-        answer: calls::of_start(given),
-        totals,
+    Answered {
+        answer: calls::of_done(started.answer),
+        totals: started.totals,
     }
 }
 
@@ -115,7 +101,7 @@ pub fn make(
     used_bins: &mut [u8; 32],
     nodes: &mut [u32],
     free_nodes: &mut [u32],
-) -> Called
+) -> Answered<Option<Allocation>>
     ensures { Makes edition32 call
         (words_of t bin_indices.old used_bins.old nodes.old free_nodes.old)
         (words_of result.totals bin_indices.new used_bins.new nodes.new free_nodes.new)

@@ -9,52 +9,48 @@ ghost use Rattle.call_values.specs.declared.call.Call.TheVariants.{SetUp, Reset,
 ghost use Rattle.telling.specs.Made.{made, by_value};
 
 use answers::{Allocation, Handle};
-use asking_by_value::Called;
 use call_values::answer::Answer;
 use call_values::call::Call;
 use offset_allocator::head::Head;
 use small_float::Size;
-use telling::told;
+use telling::{Called, told};
 
-fn set_up(size: u32, count: u32, nodes: &mut [u32], free_nodes: &mut [u32]) -> Called
+fn set_up(size: u32, count: u32, nodes: &mut [u32], free_nodes: &mut [u32]) -> Called<Head>
     ensures { (head : Head) → ◌≡◌ {A = Told × Words}
-        (result.answer, head_words result.head nodes.new free_nodes.new)
+        (result.answer, head_words result.left nodes.new free_nodes.new)
         (made by_value (SetUp size count) (head_words head nodes.old free_nodes.old)) }
 {
     let started = Head::with_max_allocs(Size(size), count, nodes, free_nodes);
     let given = started.answer;
-    let head = started.head;
     Called {
-        answer: told::of_start(given),
-        head,
+        answer: told::of_answer(given),
+        left: started.head,
     }
 }
 
-fn reset(head: Head, nodes: &mut [u32], free_nodes: &mut [u32]) -> Called
+fn reset(head: Head, nodes: &mut [u32], free_nodes: &mut [u32]) -> Called<Head>
     ensures { ◌≡◌ {A = Told × Words}
-        (result.answer, head_words result.head nodes.new free_nodes.new)
+        (result.answer, head_words result.left nodes.new free_nodes.new)
         (made by_value Reset (head_words head nodes.old free_nodes.old)) }
 {
     let started = head.reset(nodes, free_nodes);
     let given = started.answer;
-    let head = started.head;
     Called {
-        answer: told::of_start(given),
-        head,
+        answer: told::of_answer(given),
+        left: started.head,
     }
 }
 
-fn take(head: Head, nodes: &mut [u32], free_nodes: &[u32], size: u32) -> Called
+fn take(head: Head, nodes: &mut [u32], free_nodes: &[u32], size: u32) -> Called<Head>
     ensures { ◌≡◌ {A = Told × Words}
-        (result.answer, head_words result.head nodes.new free_nodes.now)
+        (result.answer, head_words result.left nodes.new free_nodes.now)
         (made by_value (Take size) (head_words head nodes.old free_nodes.now)) }
 {
     let taken = head.allocate(Size(size), nodes, free_nodes);
     let given = taken.answer;
-    let head = taken.head;
     Called {
-        answer: told::of_take(given),
-        head,
+        answer: told::of_answer(given),
+        left: taken.head,
     }
 }
 
@@ -65,9 +61,9 @@ fn hand_back(
     free_nodes: &mut [u32],
     offset: u32,
     number: u32,
-) -> Called
+) -> Called<Head>
     ensures { ◌≡◌ {A = Told × Words}
-        (result.answer, head_words result.head nodes.new free_nodes.new)
+        (result.answer, head_words result.left nodes.new free_nodes.new)
         (made by_value (HandBack offset number) (head_words head nodes.old free_nodes.old)) }
 {
     let span = Allocation {
@@ -76,16 +72,15 @@ fn hand_back(
     };
     let freed = head.free(span, nodes, free_nodes);
     let given = freed.answer;
-    let head = freed.head;
     Called {
-        answer: told::of_back(given),
-        head,
+        answer: told::of_answer(given),
+        left: freed.head,
     }
 }
 
 // The call made, and its answer.
-pub fn make(call: Call, head: Head, nodes: &mut [u32], free_nodes: &mut [u32]) -> Called
-    ensures { ◌≡◌ {A = Told × Words} (result.answer, head_words result.head nodes.new free_nodes.new)
+pub fn make(call: Call, head: Head, nodes: &mut [u32], free_nodes: &mut [u32]) -> Called<Head>
+    ensures { ◌≡◌ {A = Told × Words} (result.answer, head_words result.left nodes.new free_nodes.new)
         (made by_value call (head_words head nodes.old free_nodes.old)) }
 {
     match call {
@@ -93,15 +88,21 @@ pub fn make(call: Call, head: Head, nodes: &mut [u32], free_nodes: &mut [u32]) -
         Call::Reset => reset(head, nodes, free_nodes),
         Call::Take(size) => take(head, nodes, free_nodes, size),
         Call::HandBack(offset, number) => hand_back(head, nodes, free_nodes, offset, number),
-        Call::SizeOf(offset, number) => asking_by_value::size_of(
-            head, nodes, free_nodes, offset, number,
-        ),
-        Call::Report => asking_by_value::report(head, nodes, free_nodes),
-        Call::ClassOf(class) => asking_by_value::class_of(head, nodes, free_nodes, class),
-        Call::ClassesHeld => asking_by_value::classes_held(head, nodes, free_nodes),
-        Call::Nothing => Called {
-            answer: Answer::Nothing,
-            head: head,
+        Call::SizeOf(offset, number) => Called {
+            answer: asking_by_value::size_of(head, nodes, free_nodes, offset, number),
+            left: head,
+        },
+        Call::Report => Called {
+            answer: asking_by_value::report(head, nodes, free_nodes),
+            left: head,
+        },
+        Call::ClassOf(class) => Called {
+            answer: asking_by_value::class_of(head, nodes, free_nodes, class),
+            left: head,
+        },
+        Call::ClassesHeld => Called {
+            answer: asking_by_value::classes_held(head, nodes, free_nodes),
+            left: head,
         },
     }
 }

@@ -14,13 +14,7 @@ use call_values::answer::Answer;
 use call_values::call::Call;
 use records::totals::Totals;
 use small_float::Size;
-use telling::told;
-
-#[derive(Clone, Copy)]
-pub struct Called {
-    pub answer: Answer,
-    pub totals: Totals,
-}
+use telling::{Called, told};
 
 // A call that changes something is made as `calling` makes it.
 fn change(
@@ -30,21 +24,21 @@ fn change(
     used_bins: &mut [u8; 32],
     nodes: &mut [u32],
     free_nodes: &mut [u32],
-) -> Called
+) -> Called<Totals>
     ensures { ◌≡◌ {A = Told × Words}
-        (result.answer, words_of result.totals bin_indices.new used_bins.new nodes.new free_nodes.new)
+        (result.answer, words_of result.left bin_indices.new used_bins.new nodes.new free_nodes.new)
         (changed call (words_of t bin_indices.old used_bins.old nodes.old free_nodes.old)) }
 {
     let made = calling::make(call, t, bin_indices, used_bins, nodes, free_nodes);
     let given = made.answer;
-    let totals = made.totals;
     Called {
-        answer: told::of_change(given),
-        totals,
+        answer: told::of_answer(given),
+        left: made.totals,
     }
 }
 
-// The questions, which change nothing.
+// The questions, which change nothing. `asking_by_value` has them once more: one trait over both forms would want three methods in two impls and four
+// generic functions, thirteen items for these eight.
 fn size_of(
     t: Totals,
     bin_indices: &[u32; 256],
@@ -53,9 +47,9 @@ fn size_of(
     free_nodes: &[u32],
     offset: u32,
     number: u32,
-) -> Called
+) -> Answer
     ensures { ◌≡◌ {A = Told × Words}
-        (result.answer, words_of result.totals bin_indices.now used_bins.now nodes.now free_nodes.now)
+        (result, words_of t bin_indices.now used_bins.now nodes.now free_nodes.now)
         (made in_place (SizeOf offset number)
         (words_of t bin_indices.now used_bins.now nodes.now free_nodes.now)) }
 {
@@ -64,10 +58,7 @@ fn size_of(
         metadata: Handle(number),
     };
     let given = asking::allocation_size(t, span, bin_indices, used_bins, nodes, free_nodes);
-    Called {
-        answer: told::of_size(given),
-        totals: t,
-    }
+    told::of_answer(given)
 }
 
 fn report(
@@ -76,17 +67,14 @@ fn report(
     used_bins: &[u8; 32],
     nodes: &[u32],
     free_nodes: &[u32],
-) -> Called
+) -> Answer
     ensures { ◌≡◌ {A = Told × Words}
-        (result.answer, words_of result.totals bin_indices.now used_bins.now nodes.now free_nodes.now)
+        (result, words_of t bin_indices.now used_bins.now nodes.now free_nodes.now)
         (made in_place Report
         (words_of t bin_indices.now used_bins.now nodes.now free_nodes.now)) }
 {
     let given = asking::storage_report(t, bin_indices, used_bins, nodes, free_nodes);
-    Called {
-        answer: told::of_report(given),
-        totals: t,
-    }
+    told::of_answer(given)
 }
 
 fn class_of(
@@ -96,17 +84,14 @@ fn class_of(
     nodes: &[u32],
     free_nodes: &[u32],
     class: u32,
-) -> Called
+) -> Answer
     ensures { ◌≡◌ {A = Told × Words}
-        (result.answer, words_of result.totals bin_indices.now used_bins.now nodes.now free_nodes.now)
+        (result, words_of t bin_indices.now used_bins.now nodes.now free_nodes.now)
         (made in_place (ClassOf class)
         (words_of t bin_indices.now used_bins.now nodes.now free_nodes.now)) }
 {
     let full = asking::storage_report_full(t, bin_indices, used_bins, nodes, free_nodes);
-    Called {
-        answer: told::of_class(full, class),
-        totals: t,
-    }
+    told::of_class(full, class)
 }
 
 fn classes_held(
@@ -115,17 +100,14 @@ fn classes_held(
     used_bins: &[u8; 32],
     nodes: &[u32],
     free_nodes: &[u32],
-) -> Called
+) -> Answer
     ensures { ◌≡◌ {A = Told × Words}
-        (result.answer, words_of result.totals bin_indices.now used_bins.now nodes.now free_nodes.now)
+        (result, words_of t bin_indices.now used_bins.now nodes.now free_nodes.now)
         (made in_place ClassesHeld
         (words_of t bin_indices.now used_bins.now nodes.now free_nodes.now)) }
 {
     let full = asking::storage_report_full(t, bin_indices, used_bins, nodes, free_nodes);
-    Called {
-        answer: told::of_classes(full),
-        totals: t,
-    }
+    told::of_classes(full)
 }
 
 // The call made, and its answer.
@@ -136,9 +118,9 @@ pub fn make(
     used_bins: &mut [u8; 32],
     nodes: &mut [u32],
     free_nodes: &mut [u32],
-) -> Called
+) -> Called<Totals>
     ensures { ◌≡◌ {A = Told × Words}
-        (result.answer, words_of result.totals bin_indices.new used_bins.new nodes.new free_nodes.new)
+        (result.answer, words_of result.left bin_indices.new used_bins.new nodes.new free_nodes.new)
         (made in_place call (words_of t bin_indices.old used_bins.old nodes.old free_nodes.old)) }
 {
     match call {
@@ -177,15 +159,21 @@ pub fn make(
             nodes,
             free_nodes,
         ),
-        Call::SizeOf(offset, number) => {
-            size_of(t, bin_indices, used_bins, nodes, free_nodes, offset, number)
-        }
-        Call::Report => report(t, bin_indices, used_bins, nodes, free_nodes),
-        Call::ClassOf(class) => class_of(t, bin_indices, used_bins, nodes, free_nodes, class),
-        Call::ClassesHeld => classes_held(t, bin_indices, used_bins, nodes, free_nodes),
-        Call::Nothing => Called {
-            answer: Answer::Nothing,
-            totals: t,
+        Call::SizeOf(offset, number) => Called {
+            answer: size_of(t, bin_indices, used_bins, nodes, free_nodes, offset, number),
+            left: t,
+        },
+        Call::Report => Called {
+            answer: report(t, bin_indices, used_bins, nodes, free_nodes),
+            left: t,
+        },
+        Call::ClassOf(class) => Called {
+            answer: class_of(t, bin_indices, used_bins, nodes, free_nodes, class),
+            left: t,
+        },
+        Call::ClassesHeld => Called {
+            answer: classes_held(t, bin_indices, used_bins, nodes, free_nodes),
+            left: t,
         },
     }
 }

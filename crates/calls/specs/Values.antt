@@ -1,11 +1,11 @@
 -- A call's fields, and what an answer is in the ledger's terms: document 01's number and figures for each of its cases. Assumes nothing.
-use Rattle.std.specs.Prelude.{◌≡◌, List, [], ◌∷◌, ℕ, ◌^◌, ◌<◌}
+use Rattle.std.specs.Prelude.{◌≡◌, List, [], ◌∷◌, ℕ, ◌^◌, ◌<◌, Option, Some, None, Result, Ok, Err}
 use Rattle.ledger.specs.Ledger as ledger
-use Rattle.answers.specs.Refusals.{number_of}
+use Rattle.answers.specs.declared.Allocation.{Allocation}
+use Rattle.answers.specs.declared.Refusal.{Refusal}
+use Rattle.answers.specs.Answers as answers
 use Rattle.calls.specs.declared.Call.{Call}
 use Rattle.calls.specs.declared.Call.TheVariants.{Take, HandBack, SetUp, Reset}
-use Rattle.calls.specs.declared.Answer.{Answer}
-use Rattle.calls.specs.declared.Answer.TheVariants as answer
 
 -- the numbers that a call holds, in their order; of a span its record, then where it starts
 abbrev pub fields_of : Call → List ℕ
@@ -22,10 +22,21 @@ AllFit (n ∷ ns) = (n < 2 ^ 32) × AllFit ns
 abbrev pub Fits : Call → Type 0
 Fits c = AllFit (fields_of c)
 
+-- what any of them answers: done with nothing to give, a granted span, or a refusal
+abbrev pub Answer : Type 0
+Answer = Result (Option Allocation) Refusal
+
+abbrev pub Done : Answer
+Done = Ok None
+
+abbrev pub Granted : Allocation → Answer
+Granted span = Ok (Some span)
+
+abbrev pub Refused : Refusal → Answer
+Refused why = Err why
+
 abbrev pub says : Answer → ledger.Answer
-says answer.Done = ledger.done
-says (answer.Granted span) = ledger.granted span.offset span.metadata.0
-says (answer.Refused why) = ledger.refused (number_of why)
+says = answers.says answers.span_or_done
 
 -- an answer is given by what it says; proofs/OneValue.antt makes it
 pub record OneValue : Type 0 where

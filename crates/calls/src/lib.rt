@@ -3,11 +3,10 @@
 #![tactic(auto)]
 
 ghost use Rattle.std.specs.Prelude.{◌≡◌};
-ghost use Rattle.ledger.specs.Figures.{refusal_of};
-ghost use Rattle.answers.specs.Answers.{start_says, take_says, back_says};
+ghost use Rattle.answers.specs.Answers.{start_says, take_says};
 ghost use Rattle.calls.specs.Values.{says};
 
-use answers::{Allocation, BackAnswer, Refusal, StartAnswer, TakeAnswer};
+use answers::{Allocation, Refusal};
 use small_float::Size;
 
 #[derive(Clone, Copy)]
@@ -21,54 +20,19 @@ pub enum Call {
     Reset,
 }
 
-// What any of them answers.
-#[derive(Clone, Copy)]
-pub enum Answer {
-    // setup, reset or hand back
-    Done,
-    // take
-    Granted(Allocation),
-    Refused(Refusal),
-}
+// What any of them answers: a take that is granted gives a span, and what else is done gives nothing.
+pub type Answer = Result<Option<Allocation>, Refusal>;
 
-impl Answer {
-    // Document 01's number; 0 where it is no refusal.
-    pub fn number(self) -> u32
-        ensures { result ≡ refusal_of (says self) }
-    {
-        let answer = self;
-        match answer {
-            Answer::Done => 0,
-            Answer::Granted(_) => 0,
-            Answer::Refused(why) => why.number(),
-        }
-    }
-}
-
-// Each call's own answer as one of these: it says the same.
-pub fn of_start(answer: StartAnswer) -> Answer
+// Each call's own answer as one of these: it says the same. Setup, reset and hand back are merely done.
+pub fn of_done(answer: Result<(), Refusal>) -> Answer
     ensures { says result ≡ start_says answer }
 {
-    match answer {
-        StartAnswer::Done => Answer::Done,
-        StartAnswer::Refused(why) => Answer::Refused(why),
-    }
+    answer?;
+    Ok(None)
 }
 
-pub fn of_take(answer: TakeAnswer) -> Answer
+pub fn of_take(answer: Result<Allocation, Refusal>) -> Answer
     ensures { says result ≡ take_says answer }
 {
-    match answer {
-        TakeAnswer::Granted(span) => Answer::Granted(span),
-        TakeAnswer::Refused(why) => Answer::Refused(why),
-    }
-}
-
-pub fn of_back(answer: BackAnswer) -> Answer
-    ensures { says result ≡ back_says answer }
-{
-    match answer {
-        BackAnswer::Done => Answer::Done,
-        BackAnswer::Refused(why) => Answer::Refused(why),
-    }
+    Ok(Some(answer?))
 }

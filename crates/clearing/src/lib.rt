@@ -9,6 +9,7 @@ ghost use Rattle.records.specs.InWords.{HasRoom};
 
 use answers::Handle;
 use records::nodes;
+use records::nodes::Field;
 
 // Every class has this top.
 pub fn clear_bin_indices(bin_indices: &mut [u32; 256], top: u32)
@@ -29,10 +30,8 @@ pub fn mark_not_live(nodes: &mut [u32], max_allocs: u32)
     requires { HasRoom max_allocs nodes.old }
     ensures { nodes.new ≡ wiped max_allocs nodes.old }
 {
-    let mut r: u32 = 0;
-    while r < max_allocs {
-        nodes::put(nodes, Handle(r), nodes::USED, 0);
-        r += 1;
+    for r in 0..max_allocs {
+        nodes::put(nodes, Handle(r), Field::Used, 0);
     }
 }
 
@@ -41,9 +40,7 @@ pub fn pile_up(free_nodes: &mut [u32], max_allocs: u32)
     requires { max_allocs ≤ length free_nodes.old }
     ensures { free_nodes.new ≡ piled max_allocs max_allocs free_nodes.old }
 {
-    let mut i: u32 = 0;
-    while i < max_allocs {
+    for i in 0..max_allocs {
         free_nodes[i as usize] = max_allocs - i - 1;
-        i += 1;
     }
 }

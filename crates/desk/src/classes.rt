@@ -1,7 +1,7 @@
 // Document 01's table of size classes, and the smallest store of an object.
-use crate::text;
-use small_float::ext::Smallest;
-use small_float::{RoundedUp, Size};
+use small_float::Size;
+use small_float::ext::TooLarge;
+use std::io;
 
 // The sizes of the table, in its order.
 const SIZES: [u32; 12] = [
@@ -9,34 +9,28 @@ const SIZES: [u32; 12] = [
 ];
 
 // A size, its class rounded down and its class rounded up, or that it has none.
-fn print_row(size: u32) {
+fn print_row(rt: &impl Print, size: u32) -> io::Result<()> {
     let down = small_float::uint_to_float_round_down(Size(size));
-    text::print_column(size, 10);
-    text::print_column(down.0, 6);
+    print!(rt; "{size:>10}{:>6}", down.0)?;
     match small_float::uint_to_float_round_up(Size(size)) {
-        RoundedUp::To(up) => text::print_column(up.0, 6),
-        RoundedUp::NoClass => text::print(b"  none"),
+        Some(up) => println!(rt; "{:>6}", up.0),
+        None => println!(rt; "  none"),
     }
-    text::print(b"\n");
 }
 
-pub fn print_table() {
-    text::print(b"      size  down    up\n");
-    for i in 0..12 {
-        print_row(SIZES[i]);
+pub fn print_table(rt: &impl Print) -> io::Result<()> {
+    println!(rt; "      size  down    up")?;
+    for size in SIZES {
+        print_row(rt, size)?;
     }
+    Ok(())
 }
 
 // The smallest store of an object, or the number of the refusal.
-pub fn print_smallest_store(object: u32) {
-    text::print(b"smallest store of ");
-    text::print_number(object);
+pub fn print_smallest_store(rt: &impl Print, object: u32) -> io::Result<()> {
+    print!(rt; "smallest store of {object}: ")?;
     match small_float::ext::min_allocator_size(Size(object)) {
-        Smallest::Store(store) => {
-            text::print(b": ");
-            text::print_number(store.0);
-        }
-        Smallest::TooLarge => text::print(b": refusal 7"),
+        Ok(store) => println!(rt; "{}", store.0),
+        Err(TooLarge) => println!(rt; "refusal 7"),
     }
-    text::print(b"\n");
 }

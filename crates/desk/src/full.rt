@@ -1,38 +1,24 @@
 // The full report: a row for each class that holds a free region, and for the sixteen classes from 240 on, which none enters and whose values only 64
 // bits hold.
-use crate::text;
-use answers::{FullAnswer, FullOutcome};
+use answers::FullAnswer;
+use std::io;
 
-// The class, its value and how many free regions it holds.
-fn print_row(class: usize, value: u64, count: u32) {
-    if class < 240 {
-        if count == 0 {
-            return;
+fn print_rows(rt: &impl Print, sizes: &[u64; 256], counts: &[u32; 256]) -> io::Result<()> {
+    println!(rt; "     class        value  free regions")?;
+    for (class, (value, count)) in sizes.iter().zip(counts.iter()).enumerate() {
+        if 240 <= class || *count != 0 {
+            println!(rt; "{class:>10}{value:>13}{count:>14}")?;
         }
     }
-    text::print_wide_column(class as u64, 10);
-    text::print_wide_column(value, 13);
-    text::print_column(count, 14);
-    text::print(b"\n");
+    Ok(())
 }
 
-fn print_rows(sizes: &[u64; 256], counts: &[u32; 256]) {
-    text::print(b"     class        value  free regions\n");
-    for i in 0..256 {
-        print_row(i, sizes[i], counts[i]);
-    }
-}
-
-pub fn print_report(full: FullAnswer) {
+pub fn print_report(rt: &impl Print, full: FullAnswer) -> io::Result<()> {
     let outcome = full.outcome;
     let sizes = full.sizes;
     let counts = full.counts;
     match outcome {
-        FullOutcome::Counted => print_rows(&sizes, &counts),
-        FullOutcome::Refused(why) => {
-            text::print(b"refusal ");
-            text::print_number(why.number());
-            text::print(b"\n");
-        }
+        Ok(()) => print_rows(rt, &sizes, &counts),
+        Err(why) => println!(rt; "refusal {}", why.number()),
     }
 }

@@ -6,12 +6,13 @@ mod classes;
 mod full;
 mod run;
 mod strip;
-mod text;
 
-fn main() {
-    run::print_run();
-    text::print(b"\n");
-    classes::print_table();
-    classes::print_smallest_store(17);
-    classes::print_smallest_store(4294967295);
+use std::io;
+
+fn main(rt: HostRuntime) -> io::Result<()> {
+    run::print_run(&rt)?;
+    println!(rt)?;
+    classes::print_table(&rt)?;
+    classes::print_smallest_store(&rt, 17)?;
+    classes::print_smallest_store(&rt, 4294967295)
 }

@@ -1,48 +1,51 @@
 // A strip of the store: its regions in address order, each with its record and its length, parted by `=` if it is live and by `.` if it is
 // free. It is read from the words of the table of records, whose layout docs/TABLES.md gives.
-use crate::text;
-use records::nodes::{DATA_SIZE, NEIGHBOR_NEXT, NEIGHBOR_PREV, NONE, USED};
+use records::nodes;
+use records::nodes::{Field, NONE};
+use std::fmt;
 
-// Word k of a record; 0 past the end.
-fn word(nodes: &[u32], record: u32, k: usize) -> u32 {
-    let i = 8 * (record as usize) + k % 8;
-    if i < nodes.len() {
-        return nodes[i];
-    }
-    0
+// The table of records, a record that holds a region, and how many records there are.
+#[derive(Clone, Copy)]
+pub struct Strip<'a> {
+    pub nodes: &'a [u32],
+    pub record: u32,
+    pub count: u32,
 }
 
-// The first record in address order, from one that holds a region; a chain of count records has no more links than that to go.
-fn first(nodes: &[u32], record: u32, count: u32) -> u32 {
-    let mut r = record;
-    for _ in 0..count {
-        let before = word(nodes, r, NEIGHBOR_PREV);
-        if before != NONE {
-            r = before;
+impl Strip<'_> {
+    fn word(&self, record: u32, k: Field) -> u32 {
+        nodes::shown(self.nodes, record, k)
+    }
+
+    // The first record in address order; a chain of count records has no more links than that to go.
+    fn first(&self) -> u32 {
+        let mut r = self.record;
+        for _ in 0..self.count {
+            let before = self.word(r, Field::NeighborPrev);
+            if before != NONE {
+                r = before;
+            }
         }
+        r
     }
-    r
 }
 
-fn print_region(nodes: &[u32], record: u32) {
-    text::print_number(record);
-    if word(nodes, record, USED) == 0 {
-        text::print(b".");
-    } else {
-        text::print(b"=");
-    }
-    text::print_number(word(nodes, record, DATA_SIZE));
-    text::print(b"|");
-}
-
-// The whole strip, from any record that holds a region.
-pub fn print_strip(nodes: &[u32], record: u32, count: u32) {
-    let mut r = first(nodes, record, count);
-    text::print(b"|");
-    for _ in 0..count {
-        if r != NONE {
-            print_region(nodes, r);
-            r = word(nodes, r, NEIGHBOR_NEXT);
+impl fmt::Display for Strip<'_> {
+    fn fmt<W: fmt::Write>(&self, f: &mut fmt::Formatter<W>) -> fmt::Result {
+        let mut r = self.first();
+        f.write_str("|")?;
+        for _ in 0..self.count {
+            if r != NONE {
+                let mark = if self.word(r, Field::Used) == 0 {
+                    '.'
+                } else {
+                    '='
+                };
+                let length = self.word(r, Field::DataSize);
+                write!(f, "{r}{mark}{length}|")?;
+                r = self.word(r, Field::NeighborNext);
+            }
         }
+        Ok(())
     }
 }

@@ -8,8 +8,7 @@ ghost use Rattle.draws.specs.Draws.{next_seed, high_half, high_below, whole_word
 pub fn next(seed: u32) -> u32
     ensures { result ≡ next_seed seed }
 {
-    let whole = (seed as u64) * 1664525 + 1013904223;
-    (whole % 4294967296) as u32
+    seed.wrapping_mul(1664525).wrapping_add(1013904223)
 }
 
 // The low bits of a seed come round again soon; the high half is good enough for sizes.
@@ -23,13 +22,11 @@ pub fn high_half(seed: u32) -> u32
 pub fn below(seed: u32, n: u32) -> u32
     ensures { result ≡ high_below seed n }
 {
-    if n == 0 {
-        return 0;
-    }
-    high_half(seed) % n
+    if n == 0 { 0 } else { high_half(seed) % n }
 }
 
 // All 32 bits of a word: the high halves of the next two seeds.
+#[tactic(auto, unfolding(crate::specs::Draws::whole_word))]
 pub fn word(seed: u32) -> u32
     ensures { result ≡ whole_word seed }
 {

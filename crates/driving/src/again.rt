@@ -1,5 +1,5 @@
 // Setups and audits again and again, so that one of them can be timed.
-use answers::AuditAnswer;
+use answers::Refusal;
 use records::totals::Totals;
 use small_float::Size;
 
@@ -14,9 +14,7 @@ pub fn set_up(
     free_nodes: &mut [u32],
 ) -> Totals {
     let mut t = Totals::zeros();
-    let mut i = 0u32;
-    while i < times {
-        i += 1;
+    for _ in 0..times {
         let started = starting::with_max_allocs(
             Size(size),
             records,
@@ -30,10 +28,10 @@ pub fn set_up(
     t
 }
 
-fn is_sound(answer: AuditAnswer) -> bool {
+fn is_sound(answer: Result<(), Refusal>) -> bool {
     match answer {
-        AuditAnswer::Sound => true,
-        AuditAnswer::Refused(_) => false,
+        Ok(()) => true,
+        Err(_) => false,
     }
 }
 
@@ -48,9 +46,7 @@ pub fn audit(
     scratch: &mut [u32],
 ) -> bool {
     let mut sound = false;
-    let mut i = 0u32;
-    while i < times {
-        i += 1;
+    for _ in 0..times {
         sound = is_sound(auditing::audit(t, bin_indices, used_bins, nodes, free_nodes, scratch));
     }
     sound

@@ -1,44 +1,32 @@
-// The spans that are out, two words each: where a span starts, and its handle.
-use answers::{Allocation, Handle, TakeAnswer};
+// The spans that are out.
+use answers::{Allocation, Handle, Refusal};
 
-fn put(held: &mut [u32], place: u32, offset: u32, handle: u32) {
-    let i = 2 * (place as usize);
-    if i + 1 < held.len() {
-        held[i] = offset;
-        held[i + 1] = handle;
-    }
-}
+// What stands where none is out.
+pub const NO_SPAN: Allocation = Allocation {
+    offset: 0,
+    metadata: Handle(0),
+};
 
 // What was granted, at the end.
-pub fn keep(held: &mut [u32], count: u32, answer: TakeAnswer) {
+pub fn keep(held: &mut [Allocation], count: u32, answer: Result<Allocation, Refusal>) {
     match answer {
-        TakeAnswer::Granted(span) => {
-            let handle = span.metadata;
-            put(held, count, span.offset, handle.0);
+        Ok(span) => {
+            if let Some(place) = held.get_mut(count as usize) {
+                *place = span;
+            }
         }
-        TakeAnswer::Refused(_) => (),
+        Err(_) => (),
     }
 }
 
 // The span at a place; the last one moves there.
-pub fn swap_remove(held: &mut [u32], count: u32, place: u32) -> Allocation {
-    let i = 2 * (place as usize);
-    let end = 2 * (count as usize);
-    if end <= held.len() {
-        if i + 1 < end {
-            let offset = held[i];
-            let handle = held[i + 1];
-            let last_offset = held[end - 2];
-            let last_handle = held[end - 1];
-            put(held, place, last_offset, last_handle);
-            return Allocation {
-                offset: offset,
-                metadata: Handle(handle),
-            };
-        }
+pub fn swap_remove(held: &mut [Allocation], count: u32, place: u32) -> Allocation {
+    let count = count as usize;
+    let place = place as usize;
+    if place < count && count <= held.len() {
+        let span = held[place];
+        held[place] = held[count - 1];
+        return span;
     }
-    Allocation {
-        offset: 0,
-        metadata: Handle(0),
-    }
+    NO_SPAN
 }

@@ -4,6 +4,7 @@
 
 pub mod again;
 pub mod by_value;
+pub mod form;
 pub mod held;
 pub mod in_place;
 pub mod lent;

@@ -1,21 +1,38 @@
 // What is drawn and what came of it so far, the same in every form of the calls.
-use answers::TakeAnswer;
+use answers::{Allocation, Refusal};
+use std::fmt;
 
-// As often a take as a return, by the toss of a coin; what goes back is drawn.
-pub const TOSS: u32 = 1;
+// The kinds of run.
+#[derive(Clone, Copy, PartialEq, Eq)]
+pub enum Run {
+    // As often a take as a return, by the toss of a coin; what goes back is drawn.
+    Toss,
+    // So many takes, then as many returns, the last one first.
+    Bursts,
+    // So many spans are out, and then one that is drawn is replaced by another again and again.
+    LiveSet,
+    // Spans are taken until one is refused, and then replaced as in a live set; a refusal makes the set smaller.
+    Full,
+    // The same, but what goes back is drawn from half a word.
+    Other,
+}
 
-// So many takes, then as many returns, the last one first.
-pub const BURSTS: u32 = 2;
+// The number of a kind in a row of the input.
+impl From<u32> for Run {
+    fn from(number: u32) -> Run {
+        match number {
+            1 => Run::Toss,
+            2 => Run::Bursts,
+            3 => Run::LiveSet,
+            4 => Run::Full,
+            _ => Run::Other,
+        }
+    }
+}
 
 pub const BURST: u32 = 64;
 
-// So many spans are out, and then one that is drawn is replaced by another again and again.
-pub const LIVE_SET: u32 = 3;
-
 pub const LIVE: u32 = 256;
-
-// Spans are taken until one is refused, and then replaced as in a live set; a refusal makes the set smaller.
-pub const FULL: u32 = 4;
 
 pub const LARGEST: u32 = 2000;
 
@@ -29,7 +46,7 @@ pub const REFUSED: u32 = 4294967295;
 // the sum of all answers.
 #[derive(Clone, Copy)]
 pub struct Draws {
-    pub run: u32,
+    pub run: Run,
     pub top: u32,
     pub seed: u32,
     pub held: u32,
@@ -37,24 +54,21 @@ pub struct Draws {
 }
 
 fn mix(sum: u32, answer: u32) -> u32 {
-    let whole = (sum as u64) * 31 + (answer as u64);
-    (whole % 4294967296) as u32
+    sum.wrapping_mul(31).wrapping_add(answer)
 }
 
-fn first_top(run: u32) -> u32 {
-    if run == BURSTS {
-        return BURST;
+fn first_top(run: Run) -> u32 {
+    match run {
+        Run::Bursts => BURST,
+        Run::LiveSet => LIVE,
+        Run::Toss | Run::Full | Run::Other => MOST,
     }
-    if run == LIVE_SET {
-        return LIVE;
-    }
-    MOST
 }
 
 impl Draws {
-    pub fn new(run: u32) -> Draws {
+    pub fn new(run: Run) -> Draws {
         Draws {
-            run: run,
+            run,
             top: first_top(run),
             seed: 1,
             held: 0,
@@ -64,19 +78,16 @@ impl Draws {
 
     // The next call is a take; otherwise it hands back.
     pub fn is_take(self) -> bool {
-        if self.run == TOSS {
-            return draws::below(self.seed, 2) == 0;
+        match self.run {
+            Run::Toss => draws::below(self.seed, 2) == 0,
+            _ => self.held < self.top,
         }
-        self.held < self.top
     }
 
     pub fn draw(self) -> Draws {
         Draws {
-            run: self.run,
-            top: self.top,
             seed: draws::next(self.seed),
-            held: self.held,
-            sum: self.sum,
+            ..self
         }
     }
 
@@ -91,75 +102,64 @@ impl Draws {
         if held == 0 {
             return 0;
         }
-        if self.run == BURSTS {
-            return held - 1;
+        match self.run {
+            Run::Bursts => held - 1,
+            Run::Full => draws::word(self.seed) % held,
+            _ => draws::below(self.seed, held),
         }
-        if self.run == FULL {
-            return draws::word(self.seed) % held;
-        }
-        draws::below(self.seed, held)
     }
 
     // A grant is out, and counts. After the last take of a burst the returns begin.
     fn granted(self, offset: u32, record: u32) -> Draws {
-        let mut held = self.held;
-        let mut top = self.top;
-        if held < MOST {
-            held += 1;
-        }
-        if self.run == BURSTS {
-            if held == BURST {
-                top = 0;
-            }
-        }
+        let held = if self.held < MOST {
+            self.held + 1
+        } else {
+            self.held
+        };
+        let over = self.run == Run::Bursts && held == BURST;
         Draws {
-            run: self.run,
-            top: top,
-            seed: self.seed,
-            held: held,
+            top: if over { 0 } else { self.top },
+            held,
             sum: mix(mix(self.sum, offset), record),
+            ..self
         }
     }
 
     fn refused(self) -> Draws {
         Draws {
-            run: self.run,
             top: self.held,
-            seed: self.seed,
-            held: self.held,
             sum: mix(self.sum, REFUSED),
+            ..self
         }
     }
 
     // What a take was answered.
-    pub fn answered(self, answer: TakeAnswer) -> Draws {
+    pub fn answered(self, answer: Result<Allocation, Refusal>) -> Draws {
         match answer {
-            TakeAnswer::Granted(span) => {
+            Ok(span) => {
                 let handle = span.metadata;
                 self.granted(span.offset, handle.0)
             }
-            TakeAnswer::Refused(_) => self.refused(),
+            Err(_) => self.refused(),
         }
     }
 
     // After the last return of a burst the takes begin.
     pub fn gone_back(self) -> Draws {
-        let mut held = self.held;
-        let mut top = self.top;
-        if 0 < held {
-            held -= 1;
-        }
-        if self.run == BURSTS {
-            if held == 0 {
-                top = BURST;
-            }
-        }
+        let held = self.held.saturating_sub(1);
+        let over = self.run == Run::Bursts && held == 0;
         Draws {
-            run: self.run,
-            top: top,
-            seed: self.seed,
-            held: held,
-            sum: self.sum,
+            top: if over { BURST } else { self.top },
+            held,
+            ..self
         }
+    }
+}
+
+// Two lines, with no line end after the second.
+impl fmt::Display for Draws {
+    fn fmt<W: fmt::Write>(&self, f: &mut fmt::Formatter<W>) -> fmt::Result {
+        let Draws { sum, held, .. } = *self;
+        write!(f, "sum {sum}\nheld {held}")
     }
 }

@@ -1,23 +1,28 @@
 // The rows of the input, and what is printed of a run.
-use crate::progress::Draws;
+use crate::progress::{Draws, Run};
 use oracle_lists::rows::Reader;
-use streams::{STDIN_FILENO, STDOUT_FILENO};
+use streams::STDIN_FILENO;
+
+// How many rows of its input a program reads at most.
+pub const MOST_ROWS: u32 = 6;
 
 // What a row asks for: which run, the store's size and its number of records, and how many calls.
 #[derive(Clone, Copy)]
 pub struct Plan {
-    pub run: u32,
+    pub run: Run,
     pub size: u32,
     pub records: u32,
     pub calls: u32,
 }
 
-pub fn asked(row: Reader) -> Plan {
-    Plan {
-        run: row.a,
-        size: row.b,
-        records: row.c,
-        calls: row.d,
+impl From<Reader> for Plan {
+    fn from(row: Reader) -> Plan {
+        Plan {
+            run: Run::from(row.a),
+            size: row.b,
+            records: row.c,
+            calls: row.d,
+        }
     }
 }
 
@@ -37,9 +42,7 @@ fn fed(reader: Reader) -> Reader {
 // The next row; it is not whole where the input has ended or is no list.
 pub fn next() -> Reader {
     let mut reader = Reader::new();
-    let mut i = 0u32;
-    while i < 64 {
-        i += 1;
+    for _ in 0..64 {
         reader = fed(reader);
     }
     reader
@@ -47,19 +50,27 @@ pub fn next() -> Reader {
 
 // The row has this letter and as many numbers.
 pub fn is(row: Reader, letter: u8, fields: u32) -> bool {
-    if row.letter == letter {
-        return row.fields == fields;
+    row.letter == letter && row.fields == fields
+}
+
+// The rows of the input, each a run: `LETTER RUN SIZE RECORDS CALLS`, with the form's letter.
+pub fn drive_each<R: Print, F: FnMut(Plan) -> Draws>(
+    rt: &R,
+    letter: u8,
+    mut drive: F,
+) -> std::io::Result<()>
+    requires { F.IsAlwaysCallable drive }
+{
+    for _ in 0..MOST_ROWS {
+        let row = next();
+        if !row.is_whole() {
+            continue;
+        }
+        if is(row, letter, 4) {
+            println!(rt; "{}", drive(Plan::from(row)))?;
+        } else {
+            println!(rt; "a row is {} RUN SIZE RECORDS CALLS", char::from(letter))?;
+        }
     }
-    false
-}
-
-pub fn line(text: &[u8], n: u32) {
-    io::write_all(STDOUT_FILENO, text);
-    io::print_decimal(STDOUT_FILENO, n as u64);
-    io::write_all(STDOUT_FILENO, b"\n");
-}
-
-pub fn print(draws: Draws) {
-    line(b"sum ", draws.sum);
-    line(b"held ", draws.held);
+    Ok(())
 }

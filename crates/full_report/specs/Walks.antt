@@ -1,8 +1,7 @@
 -- The walk of a list, as the model's. Assumes nothing.
+use Rattle.std.specs.Prelude.{ℕ, Option, Some, None}
 use Rattle.tables.specs.Questions.{Walked, steps, lost}
-use Rattle.full_report.specs.declared.Walked.{Walked as Walk}
-use Rattle.full_report.specs.declared.Walked.TheVariants as walk
 
-abbrev pub walked_of : Walk → Walked
-walked_of (walk.Steps n) = steps n
-walked_of walk.Lost = lost
+abbrev pub walked_of : Option ℕ → Walked
+walked_of (Some n) = steps n
+walked_of None = lost

@@ -12,24 +12,18 @@ ghost use Rattle.records.specs.InWords.{words_of, HasRoom};
 ghost use Rattle.answers.specs.Answers.{full_says, FiguresOfZero, AllPlaces};
 ghost use Rattle.full_report.specs.Walks.{walked_of};
 
-use answers::{FullAnswer, FullOutcome, Handle, Refusal};
+use answers::{FullAnswer, Handle, Refusal};
 use records::nodes;
+use records::nodes::Field;
 use records::totals::Totals;
 use small_float::Class;
-
-// The steps of a list, or more of them than there are records.
-#[derive(Clone, Copy)]
-pub enum Walked {
-    Steps(u32),
-    Lost,
-}
 
 // A refusal's figures are 0.
 pub fn refuse(why: Refusal) -> FullAnswer
     ensures { (full_says result ≡ refused (number_of why)) × FiguresOfZero result × AllPlaces result }
 {
     FullAnswer {
-        outcome: FullOutcome::Refused(why),
+        outcome: Err(why),
         sizes: [0u64; 256],
         counts: [0u32; 256],
     }
@@ -40,32 +34,31 @@ fn class_sizes() -> [u64; 256]
     ensures { (length result ≡ 256) × ((c : ℕ) → c < 256 → get_or result c 0 ≡ value c) }
 {
     let mut sizes = [0u64; 256];
-    let mut c: u32 = 0;
-    while c < 256 {
+    for c in 0..256u32 {
         let value = small_float::float_to_uint(Class(c));
         let i = c as usize;
         sizes[i] = value;
-        c += 1;
     }
     sizes
 }
 
-// How many records the list from `first` on has. A circular list would have no end, so no more steps are made than there are records.
-fn list_length(nodes: &[u32], max_allocs: u32, first: Handle) -> Walked
+// How many records the list from `first` on has. A circular list would have no end, so no more steps are made than there are records, and it has no length.
+fn list_length(nodes: &[u32], max_allocs: u32, first: Handle) -> Option<u32>
     requires { HasRoom max_allocs nodes.now }
     ensures { walked_of result ≡ list_length max_allocs nodes.now max_allocs first.0 0 }
 {
     let start = first.0;
     let mut node = start;
     let mut n: u32 = 0;
+    // along links and not along an index, as `list_length` of the model
     while node < max_allocs {
         if max_allocs <= n {
-            return Walked::Lost;
+            return None;
         }
-        node = nodes::word(nodes, Handle(node), nodes::BIN_LIST_NEXT);
+        node = nodes::word(nodes, Handle(node), Field::BinListNext);
         n += 1;
     }
-    Walked::Steps(n)
+    Some(n)
 }
 
 // The length of every list, or a refusal as unsound where one is circular. That the table holds every record the gate has tested.
@@ -78,19 +71,16 @@ pub fn count(t: Totals, bin_indices: &[u32; 256], nodes: &[u32]) -> FullAnswer
 {
     let sizes = class_sizes();
     let mut counts = [0u32; 256];
-    let mut i: usize = 0;
-    while i < 256 {
+    for i in 0..256usize {
         let top = bin_indices[i];
-        let walked = list_length(nodes, t.max_allocs, Handle(top));
-        let Walked::Steps(n) = walked else {
+        let Some(n) = list_length(nodes, t.max_allocs, Handle(top)) else {
             return refuse(Refusal::Unsound);
         };
         counts[i] = n;
-        i += 1;
     }
     FullAnswer {
-        outcome: FullOutcome::Counted,
-        sizes: sizes,
-        counts: counts,
+        outcome: Ok(()),
+        sizes,
+        counts,
     }
 }

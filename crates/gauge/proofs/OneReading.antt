@@ -1,11 +1,12 @@
 -- A reading is given by what it says, and so is the gauge that comes back. Assumes nothing.
+use Rattle.std.specs.Prelude.{Result, Ok, Err}
+use Rattle.gauge.specs.declared.Reading.{Reading}
+use Rattle.answers.specs.declared.Refusal.{Refusal}
 use mathlib.Core.Path.{◌≡◌, sym, ap, ◌∙◌}
 use Rattle.basics.proofs.Clash.{clash}
 use Rattle.tables.specs.Words.{Edition}
 use Rattle.answers.proofs.Numbers.{number_means}
 use Rattle.gauge.specs.declared.Watch.{Watch}
-use Rattle.gauge.specs.declared.ReadingAnswer.{ReadingAnswer}
-use Rattle.gauge.specs.declared.ReadingAnswer.TheVariants as reading
 use Rattle.gauge.specs.declared.Taken.{Taken}
 use Rattle.gauge.specs.Rule as rule
 use Rattle.gauge.specs.Answers.{Told, watch_of, reading_says}
@@ -17,16 +18,16 @@ one_watch a b e i = record {
   last = record { 0 = ap (λ (x : rule.Watch). x.last) e i };
 }
 
-one_answer : (a b : ReadingAnswer) → reading_says a ≡ reading_says b → a ≡ b
-one_answer (reading.Read r) (reading.Read q) e =
+one_answer : (a b : Result Reading Refusal) → reading_says a ≡ reading_says b → a ≡ b
+one_answer (Ok r) (Ok q) e =
     let fills : r.fill ≡ q.fill = cc in
     let levels : r.level ≡ q.level = cc in
     let peaks : r.peak ≡ q.peak = cc in
     let nets : r.net ≡ q.net = cc in
-    ap reading.Read (λ i. record { fill = fills i; level = levels i; peak = peaks i; net = nets i })
-one_answer (reading.Read r) (reading.Refused why) e = clash (cc)
-one_answer (reading.Refused why) (reading.Read q) e = clash (cc)
-one_answer (reading.Refused why) (reading.Refused other) e = ap reading.Refused (number_means.none_shared why other (cc))
+    ap Ok (λ i. record { fill = fills i; level = levels i; peak = peaks i; net = nets i })
+one_answer (Ok r) (Err why) e = clash (cc)
+one_answer (Err why) (Ok q) e = clash (cc)
+one_answer (Err why) (Err other) e = ap Err (number_means.none_shared why other (cc))
 
 one_taken : (a b : Taken) → ◌≡◌ {A = Told × rule.Watch} (reading_says a.answer, watch_of a.watch) (reading_says b.answer, watch_of b.watch) → a ≡ b
 one_taken a b e i = record {

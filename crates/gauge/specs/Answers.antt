@@ -1,10 +1,10 @@
 -- What a reading answers, and what it leaves of the gauge, by what the store told. Assumes nothing.
-use Rattle.std.specs.Prelude.{ℕ, ℤ, Float}
+use Rattle.std.specs.Prelude.{Result, Ok, Err, ℕ, ℤ, Float}
+use Rattle.gauge.specs.declared.Reading.{Reading}
+use Rattle.answers.specs.declared.Refusal.{Refusal}
 use Rattle.ledger.specs.Ledger.{Answer, granted, done, length_is, reported, classes, refused}
 use Rattle.answers.specs.Refusals.{number_of}
 use Rattle.gauge.specs.declared.Watch.{Watch}
-use Rattle.gauge.specs.declared.ReadingAnswer.{ReadingAnswer}
-use Rattle.gauge.specs.declared.ReadingAnswer.TheVariants as reading
 use Rattle.gauge.specs.Rule.{net_change, watch_after}
 use Rattle.gauge.specs.Rule as rule
 
@@ -28,6 +28,6 @@ read_after g (classes rows) = (not_read 0, g)
 abbrev pub watch_of : Watch → rule.Watch
 watch_of w = record { level = w.gauge.level; peak = w.gauge.peak; last = w.last.0 }
 
-abbrev pub reading_says : ReadingAnswer → Told
-reading_says (reading.Read r) = read r.fill r.level r.peak r.net
-reading_says (reading.Refused why) = not_read (number_of why)
+abbrev pub reading_says : Result Reading Refusal → Told
+reading_says (Ok r) = read r.fill r.level r.peak r.net
+reading_says (Err why) = not_read (number_of why)

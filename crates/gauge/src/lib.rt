@@ -7,7 +7,7 @@ ghost use Rattle.answers.specs.Answers.{fill_says};
 ghost use Rattle.gauge.specs.Rule.{level_after, peak_after, net_change, begun};
 ghost use Rattle.gauge.specs.Answers.{watch_of, reading_says, read_after};
 
-use answers::{Fill, FillAnswer, Refusal};
+use answers::{Fill, Refusal};
 use small_float::Size;
 
 // How full the store has run, in 256ths of it: a level that follows the fill, and the highest that it was.
@@ -48,16 +48,10 @@ pub struct Reading {
     pub net: i64,
 }
 
-#[derive(Clone, Copy)]
-pub enum ReadingAnswer {
-    Read(Reading),
-    Refused(Refusal),
-}
-
 // The answer, and what to keep for the next reading: what came, if it was refused.
 #[derive(Clone, Copy)]
 pub struct Taken {
-    pub answer: ReadingAnswer,
+    pub answer: Result<Reading, Refusal>,
     pub watch: Watch,
 }
 
@@ -90,7 +84,7 @@ fn read(watch: Watch, told: Fill) -> Taken
     let level = level_after(was.level, told.fill);
     let peak = peak_after(was.peak, level);
     Taken {
-        answer: ReadingAnswer::Read(Reading {
+        answer: Ok(Reading {
             fill: told.fill,
             level,
             peak,
@@ -104,13 +98,13 @@ fn read(watch: Watch, told: Fill) -> Taken
 }
 
 // A reading by what the store tells of itself; refused if that is.
-pub fn take_reading(watch: Watch, told: FillAnswer) -> Taken
+pub fn take_reading(watch: Watch, told: Result<Fill, Refusal>) -> Taken
     ensures { (reading_says result.answer, watch_of result.watch) ≡ read_after (watch_of watch) (fill_says told) }
 {
     match told {
-        FillAnswer::Told(fill) => read(watch, fill),
-        FillAnswer::Refused(why) => Taken {
-            answer: ReadingAnswer::Refused(why),
+        Ok(fill) => read(watch, fill),
+        Err(why) => Taken {
+            answer: Err(why),
             watch,
         },
     }

@@ -1,129 +1,89 @@
 // Fill, level and peak as lines. Where a reading was refused a line is broken off, and begins anew with the next reading.
-use crate::{places, readings};
-use pictures::svg;
+use crate::places;
+use crate::readings::{Point, Read};
+use journal_lines::Lines;
+use pictures::svg::{Hundredths, Length};
 
-// How many bytes wait, and whether a line is being drawn.
+// Whether a line is being drawn: no value beside it hangs on that.
 #[derive(Clone, Copy)]
 struct Pen {
-    waiting: usize,
     down: bool,
 }
 
-// What is drawn: a row of readings, of so many calls; in steps, or from the middle of one call to the middle of the next.
-#[derive(Clone, Copy)]
-struct Curve {
-    row: usize,
-    calls: u32,
-    stepped: bool,
-}
-
 // A letter of a path, and the number behind it.
-fn letter(waiting: usize, name: &[u8], n: u32, out: &mut [u8; 65536]) -> usize {
-    let named = journal_lines::put(waiting, name, out);
-    svg::pixels(named, n, out)
+fn letter(name: &[u8], n: u32, out: &mut Lines) {
+    out.put(name);
+    Hundredths(n).put(out);
 }
 
-fn point(waiting: usize, name: &[u8], x: u32, y: u32, out: &mut [u8; 65536]) -> usize {
-    let across = letter(waiting, name, x, out);
-    letter(across, b" ", y, out)
+fn point(name: &[u8], x: u32, y: u32, out: &mut Lines) {
+    letter(name, x, out);
+    letter(b" ", y, out);
 }
 
 impl Pen {
     // Broken off at x.
-    fn lifted(self, x: u32, out: &mut [u8; 65536]) -> Pen {
-        if !self.down {
-            return self;
-        }
-        Pen {
-            waiting: letter(self.waiting, b"H", x, out),
-            down: false,
+    fn lift(&mut self, x: u32, out: &mut Lines) {
+        if self.down {
+            letter(b"H", x, out);
+            self.down = false;
         }
     }
 
     // Begun at a place, if it is not being drawn.
-    fn lowered(self, x: u32, y: u32, out: &mut [u8; 65536]) -> Pen {
-        if self.down {
-            return self;
+    fn lower(&mut self, x: u32, y: u32, out: &mut Lines) {
+        if !self.down {
+            point(b"M", x, y, out);
+            self.down = true;
         }
-        Pen {
-            waiting: point(self.waiting, b"M", x, y, out),
-            down: true,
-        }
-    }
-
-    fn to_edge(self, y: u32, x: u32, out: &mut [u8; 65536]) -> Pen {
-        let reached = letter(self.waiting, b"V", y, out);
-        Pen {
-            waiting: letter(reached, b"H", x, out),
-            down: true,
-        }
-    }
-
-    fn to_middle(self, x: u32, y: u32, out: &mut [u8; 65536]) -> Pen {
-        Pen {
-            waiting: point(self.waiting, b"L", x, y, out),
-            down: true,
-        }
-    }
-
-    // A call more.
-    fn turn(self, curve: Curve, n: u32, points: &[u32; 5000], out: &mut [u8; 65536]) -> Pen {
-        let x = places::edge(n, curve.calls);
-        if readings::at(points, readings::MARK, n) == readings::REFUSED {
-            return self.lifted(x, out);
-        }
-        let y = places::down(readings::at(points, curve.row, n));
-        let begun = self.lowered(x, y, out);
-        if curve.stepped {
-            return begun.to_edge(y, places::end(n, curve.calls), out);
-        }
-        begun.to_middle(places::middle(n, curve.calls), y, out)
     }
 }
 
-fn draw_on(waiting: usize, curve: Curve, points: &[u32; 5000], out: &mut [u8; 65536]) -> usize {
-    let calls = curve.calls;
-    let mut pen = Pen {
-        waiting,
-        down: false,
-    };
-    for n in 0..calls {
-        pen = pen.turn(curve, n, points, out);
-    }
-    let lifted = pen.lifted(places::LEFT + places::WIDTH, out);
-    lifted.waiting
+// How a line goes on at the height of a call's reading: in a step from one edge to the next, or from the middle of one call to the middle of the next.
+fn step_on(n: u32, calls: u32, y: u32, out: &mut Lines) {
+    letter(b"V", y, out);
+    letter(b"H", places::end(n, calls), out);
 }
 
-fn draw(
-    waiting: usize,
+fn slope_on(n: u32, calls: u32, y: u32, out: &mut Lines) {
+    point(b"L", places::middle(n, calls), y, out);
+}
+
+// A line of one number of each reading.
+fn draw<H: Fn(Read) -> u32, G: Fn(u32, u32, u32, &mut Lines)>(
     opened: &[u8],
-    curve: Curve,
-    points: &[u32; 5000],
-    out: &mut [u8; 65536],
-) -> usize {
-    let begun = journal_lines::put(waiting, opened, out);
-    let drawn = draw_on(begun, curve, points, out);
-    journal_lines::put(drawn, b"'/>\n", out)
+    height: H,
+    go_on: G,
+    calls: u32,
+    points: &[Point],
+    out: &mut Lines,
+)
+    requires height { H.IsAlwaysCallable height }
+    requires go_on { G.IsAlwaysCallable go_on }
+{
+    out.put(opened);
+    let mut pen = Pen { down: false };
+    for (n, point) in (0..calls).zip(points.iter()) {
+        let x = places::edge(n, calls);
+        match point.reading {
+            None => pen.lift(x, out),
+            Some(read) => {
+                let y = places::down(height(read));
+                pen.lower(x, y, out);
+                go_on(n, calls, y, out);
+            }
+        }
+    }
+    pen.lift(places::LEFT + places::WIDTH, out);
+    out.put(b"'/>\n");
 }
 
 // The peak last, so that its dashes are seen on the level where that is its own peak.
-pub fn draw_all(waiting: usize, calls: u32, points: &[u32; 5000], out: &mut [u8; 65536]) -> usize {
-    let fill = Curve {
-        row: readings::FILL,
-        calls,
-        stepped: true,
-    };
-    let level = Curve {
-        row: readings::LEVEL,
-        calls,
-        stepped: false,
-    };
-    let peak = Curve {
-        row: readings::PEAK,
-        calls,
-        stepped: false,
-    };
-    let filled = draw(waiting, b"<path class='fill' d='", fill, points, out);
-    let levelled = draw(filled, b"<path class='level' d='", level, points, out);
-    draw(levelled, b"<path class='peak' d='", peak, points, out)
+pub fn draw_all(calls: u32, points: &[Point], out: &mut Lines) {
+    let fill = b"<path class='fill' d='";
+    draw(fill, |read| read.fill, step_on, calls, points, out);
+    let level = b"<path class='level' d='";
+    draw(level, |read| read.level, slope_on, calls, points, out);
+    let peak = b"<path class='peak' d='";
+    draw(peak, |read| read.peak, slope_on, calls, points, out);
 }

@@ -9,28 +9,28 @@ mod marks;
 mod places;
 mod readings;
 
+use journal_lines::Lines;
 use pictures::counting;
+use readings::Point;
 use streams::STDIN_FILENO;
 
 // The bytes of a journal, the first of them if it has more than the picture can show. What is marked lies below the curves.
-fn draw(bytes: &[u8], points: &mut [u32; 5000], out: &mut [u8; 65536]) {
+fn draw(bytes: &[u8], out: &mut Lines) {
     let counted = counting::count(bytes);
     let calls = counted.calls;
-    readings::read_all(calls, bytes, points);
-    let begun = frame::begin(counted, out);
-    let marked = marks::draw_all(begun, calls, points, out);
-    let drawn = curves::draw_all(marked, calls, points, out);
-    journal_lines::flush(journal_lines::put(drawn, b"</svg>\n", out), out);
-}
-
-fn read_and_draw(bytes: &mut [u8; 262144], out: &mut [u8; 65536]) {
-    let n = io::read_full(STDIN_FILENO, bytes);
-    let mut points = [0u32; 5000];
-    draw(journal_lines::front(bytes, n), &mut points, out);
+    let mut all = [Point::BLANK; 1000];
+    let points = &mut all[..(calls as usize).min(1000)];
+    readings::read_all(bytes, points);
+    frame::begin(counted, out);
+    marks::draw_all(calls, points, out);
+    curves::draw_all(calls, points, out);
+    out.put(b"</svg>\n");
+    out.flush();
 }
 
 fn main() {
     let mut bytes = [0u8; 262144];
-    let mut out = io::large_buffer();
-    read_and_draw(&mut bytes, &mut out);
+    let mut out = Lines::new();
+    let n = io::read_full(STDIN_FILENO, &mut bytes);
+    draw(journal_lines::front(&bytes, n), &mut out);
 }

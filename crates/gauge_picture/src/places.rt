@@ -16,27 +16,17 @@ pub const HEIGHT: u32 = 25600;
 pub fn edge(call: u32, calls: u32) -> u32
     ensures { result ≤ 85200 }
 {
-    if calls <= call {
+    if calls <= call || MOST < calls {
         return LEFT + WIDTH;
     }
-    if MOST < calls {
-        return LEFT + WIDTH;
-    }
-    let across = WIDTH * call / calls;
-    if WIDTH < across {
-        return LEFT + WIDTH;
-    }
-    LEFT + across
+    LEFT + (WIDTH * call / calls).min(WIDTH)
 }
 
 // The edge behind a call.
 pub fn end(call: u32, calls: u32) -> u32
     ensures { result ≤ 85200 }
 {
-    if calls <= call {
-        return LEFT + WIDTH;
-    }
-    edge(call + 1, calls)
+    edge(call.saturating_add(1), calls)
 }
 
 pub fn middle(call: u32, calls: u32) -> u32
@@ -47,8 +37,5 @@ pub fn middle(call: u32, calls: u32) -> u32
 
 // The place of a number in hundredths of a 256th.
 pub fn down(height: u32) -> u32 {
-    if HEIGHT < height {
-        return FOOT - HEIGHT;
-    }
-    FOOT - height
+    FOOT - height.min(HEIGHT)
 }

@@ -1,174 +1,105 @@
-// The calls made one after the other on tables for 1,024 records, and the gauge read after each. Of each call five numbers are kept, a row of 1,000 for each
-// of the five: fill, level and peak in hundredths of a 256th, what is marked of the reading, and what the call did to all of the store.
+// The calls made one after the other on tables for 1,024 records, and the gauge read after each.
+use answers::Refusal;
 use calls::{Answer, Call};
-use gauge::{Reading, ReadingAnswer, Watch};
-use journal::entry::Entry;
+use gauge::{Reading, Watch};
+use journal::entry::Record;
 use records::totals::Totals;
 
-pub const FILL: usize = 0;
-
-pub const LEVEL: usize = 1;
-
-pub const PEAK: usize = 2;
-
-pub const MARK: usize = 3;
-
-pub const DEED: usize = 4;
-
-// A mark: as many units are live as at the last reading; or the reading was refused. 0 is neither.
-pub const SAME: u32 = 1;
-
-pub const REFUSED: u32 = 2;
-
-// A deed: a setup that was accepted, or a reset. 0 is neither.
-pub const SETUP: u32 = 1;
-
-pub const RESET: u32 = 2;
-
-const ROW: usize = 1000;
-
-pub fn at(points: &[u32; 5000], row: usize, call: u32) -> u32 {
-    let i = call as usize;
-    if row < 5 {
-        if i < ROW {
-            return points[ROW * row + i];
-        }
-    }
-    0
+// A reading: fill, level and peak in hundredths of a 256th, and whether as many units are live as at the last reading.
+#[derive(Clone, Copy)]
+pub struct Read {
+    pub fill: u32,
+    pub level: u32,
+    pub peak: u32,
+    pub same: bool,
 }
 
-fn keep(points: &mut [u32; 5000], row: usize, call: u32, n: u32) {
-    let i = call as usize;
-    if row < 5 {
-        if i < ROW {
-            points[ROW * row + i] = n;
-        }
-    }
+// What a call did to all of the store: a setup that was accepted, or a reset.
+#[derive(Clone, Copy)]
+pub enum Deed {
+    SetUp,
+    Reset,
+}
+
+// What is kept of a call.
+#[derive(Clone, Copy)]
+pub struct Point {
+    // none where the reading was refused
+    pub reading: Option<Read>,
+    pub deed: Option<Deed>,
+}
+
+impl Point {
+    pub const BLANK: Point = Point {
+        reading: None,
+        deed: None,
+    };
 }
 
 // A level in hundredths; none is above 256.
 fn hundredths(x: f32) -> u32 {
-    let n = gauge_lines::thousandths(x) / 10;
-    if 25600 < n {
-        return 25600;
-    }
-    n as u32
+    (gauge_lines::thousandths(x) / 10).min(25600) as u32
 }
 
-fn mark_of(net: i64) -> u32 {
-    if net == 0 {
-        return SAME;
-    }
-    0
-}
-
-fn keep_read(points: &mut [u32; 5000], call: u32, reading: Reading) {
-    let fill = reading.fill as u32;
-    keep(points, FILL, call, 100 * fill);
-    keep(points, LEVEL, call, hundredths(reading.level));
-    keep(points, PEAK, call, hundredths(reading.peak));
-    keep(points, MARK, call, mark_of(reading.net));
-}
-
-fn keep_reading(points: &mut [u32; 5000], call: u32, answer: ReadingAnswer) {
+fn kept_of(answer: Result<Reading, Refusal>) -> Option<Read> {
     match answer {
-        ReadingAnswer::Read(reading) => keep_read(points, call, reading),
-        ReadingAnswer::Refused(_) => keep(points, MARK, call, REFUSED),
+        Ok(reading) => Some(Read {
+            fill: 100 * u32::from(reading.fill),
+            level: hundredths(reading.level),
+            peak: hundredths(reading.peak),
+            same: reading.net == 0,
+        }),
+        Err(_) => None,
     }
 }
 
-fn deed_of(call: Call) -> u32 {
+fn deed_of(call: Call, answer: Answer) -> Option<Deed> {
+    let Ok(None) = answer else {
+        return None;
+    };
     match call {
-        Call::Take(_) => 0,
-        Call::HandBack(_) => 0,
-        Call::SetUp(_, _) => SETUP,
-        Call::Reset => RESET,
+        Call::SetUp(_, _) => Some(Deed::SetUp),
+        Call::Reset => Some(Deed::Reset),
+        Call::Take(_) | Call::HandBack(_) => None,
     }
 }
 
-fn keep_deed(points: &mut [u32; 5000], n: u32, call: Call, answer: Answer) {
-    match answer {
-        Answer::Done => keep(points, DEED, n, deed_of(call)),
-        Answer::Granted(_) => keep(points, DEED, n, 0),
-        Answer::Refused(_) => keep(points, DEED, n, 0),
-    }
-}
-
-// The store's scalars, the gauge, and the place of the next call.
-#[derive(Clone, Copy)]
-struct Stand {
-    totals: Totals,
-    watch: Watch,
-    at: usize,
-}
-
-// One call more. So many were counted as can be read, so there is one.
-fn turn(
-    stand: Stand,
-    n: u32,
-    bytes: &[u8],
-    bin_indices: &mut [u32; 256],
-    used_bins: &mut [u8; 32],
-    nodes: &mut [u32; 8192],
-    free_nodes: &mut [u32; 1024],
-    points: &mut [u32; 5000],
-) -> Stand {
-    let Entry::Read(call, next) = journal::reading::read(bytes, stand.at) else {
-        return stand;
-    };
-    let before = stand.totals;
-    let watch = stand.watch;
-    let called = calling::make(call, before, bin_indices, used_bins, nodes, free_nodes);
-    let answer = called.answer;
-    let totals = called.totals;
-    let taken = gauging::read_gauge(totals, watch, bin_indices, used_bins, nodes, free_nodes);
-    let reading = taken.answer;
-    let kept = taken.watch;
-    keep_deed(points, n, call, answer);
-    keep_reading(points, n, reading);
-    Stand {
-        totals,
-        watch: kept,
-        at: next,
-    }
-}
-
+// A point for each call. So many were counted as can be read, so there is a call for each.
 fn read_on(
-    calls: u32,
     bytes: &[u8],
     bin_indices: &mut [u32; 256],
     used_bins: &mut [u8; 32],
     nodes: &mut [u32; 8192],
     free_nodes: &mut [u32; 1024],
-    points: &mut [u32; 5000],
+    points: &mut [Point],
 ) {
-    let mut stand = Stand {
-        totals: Totals::zeros(),
-        watch: Watch::begun(),
-        at: 0,
-    };
-    for n in 0..calls {
-        stand = turn(
-            stand,
-            n,
-            bytes,
-            bin_indices,
-            used_bins,
-            nodes,
-            free_nodes,
-            points,
-        );
+    let mut totals = Totals::zeros();
+    let mut watch = Watch::begun();
+    let mut at = 0;
+    for point in points.iter_mut() {
+        let Ok(Some(Record { call, next })) = journal::reading::read(bytes, at) else {
+            return;
+        };
+        let called = calling::make(call, totals, bin_indices, used_bins, nodes, free_nodes);
+        totals = called.totals;
+        let taken = gauging::read_gauge(totals, watch, bin_indices, used_bins, nodes, free_nodes);
+        let reading = taken.answer;
+        watch = taken.watch;
+        *point = Point {
+            reading: kept_of(reading),
+            deed: deed_of(call, called.answer),
+        };
+        at = next;
     }
 }
 
-// The first so many calls.
-pub fn read_all(calls: u32, bytes: &[u8], points: &mut [u32; 5000]) {
+// Of as many of the first calls as there are points.
+pub fn read_all(bytes: &[u8], points: &mut [Point]) {
     let mut bin_indices = [0u32; 256];
     let mut used_bins = [0u8; 32];
     let mut nodes = [0u32; 8192];
     let mut free_nodes = [0u32; 1024];
     read_on(
-        calls,
         bytes,
         &mut bin_indices,
         &mut used_bins,

@@ -1,7 +1,7 @@
 // A reading in place and one by value, each with the gauge that its own form left. The store is a head of zeros but for its size, its count and its free
 // total; its tables are parts of an array of zeros, of which a reading looks at the lengths alone.
 use answers::Refusal;
-use gauge::{Gauge, ReadingAnswer, Taken, Watch};
+use gauge::{Gauge, Reading, Taken, Watch};
 use gauge_verdicts::{float_of, judge_kept, judge_refused, judge_still, judge_told};
 use offset_allocator::head::Head;
 use oracle_lists::rows::Reader;
@@ -13,7 +13,7 @@ use small_float::Size;
 #[derive(Clone, Copy)]
 pub struct Form {
     pub before: f32,
-    pub answer: ReadingAnswer,
+    pub answer: Result<Reading, Refusal>,
     pub watch: Watch,
 }
 
@@ -22,7 +22,7 @@ impl Form {
     pub fn set(level: u32, peak: u32, last: u32) -> Form {
         Form {
             before: float_of(level),
-            answer: ReadingAnswer::Refused(Refusal::NotLive),
+            answer: Err(Refusal::NotLive),
             watch: Watch {
                 gauge: Gauge {
                     level: float_of(level),
@@ -65,10 +65,8 @@ impl Form {
     fn judge_answer(self, row: Reader) -> Verdict {
         let answer = self.answer;
         match answer {
-            ReadingAnswer::Read(told) => {
-                judge_told(row, told.fill, told.level, told.peak, told.net)
-            }
-            ReadingAnswer::Refused(why) => judge_refused(row, why.number()),
+            Ok(told) => { judge_told(row, told.fill, told.level, told.peak, told.net) }
+            Err(why) => judge_refused(row, why.number()),
         }
     }
 
@@ -87,12 +85,10 @@ impl Form {
 
     // A row of what a reading gave.
     pub fn judge(self, row: Reader) -> Verdict {
-        if row.letter == b'k' {
-            return self.judge_watch(row);
+        match row.letter {
+            b'k' => self.judge_watch(row),
+            b's' => self.judge_level(row),
+            _ => self.judge_answer(row),
         }
-        if row.letter == b's' {
-            return self.judge_level(row);
-        }
-        self.judge_answer(row)
     }
 }

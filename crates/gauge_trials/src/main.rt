@@ -5,33 +5,34 @@ mod counts;
 mod forms;
 mod rows;
 
-use streams::STDOUT_FILENO;
+use oracle_lists::input;
+use rows::Comparison;
+use std::io;
 
-// A line: a text, then a number.
-fn line(text: &[u8], n: u64) {
-    io::write_all(STDOUT_FILENO, text);
-    io::print_decimal(STDOUT_FILENO, n);
-    io::write_all(STDOUT_FILENO, b"\n");
-}
-
-fn main() {
-    let comparison = rows::compare_input();
+fn print_outcome(rt: &impl Print, comparison: Comparison) -> io::Result<()> {
     let tally = comparison.tally;
     let counts = comparison.counts;
-    line(b"rows ", tally.rows);
-    line(b"agreed ", tally.agreed);
-    line(b"readings in each form ", counts.readings);
-    line(b"answers agreed ", counts.told);
-    line(b"refused as 2 ", counts.short);
-    line(b"refused as 6 ", counts.unsound);
-    line(b"gauges agreed ", counts.kept);
-    line(b"levels that stand still ", counts.still);
-    line(b"other ", tally.other);
-    if tally.other != 0 {
-        line(b"first at row ", tally.first);
+    println!(rt; "rows {}", tally.rows)?;
+    println!(rt; "agreed {}", tally.agreed)?;
+    println!(rt; "readings in each form {}", counts.readings)?;
+    println!(rt; "answers agreed {}", counts.told)?;
+    println!(rt; "refused as 2 {}", counts.short)?;
+    println!(rt; "refused as 6 {}", counts.unsound)?;
+    println!(rt; "gauges agreed {}", counts.kept)?;
+    println!(rt; "levels that stand still {}", counts.still)?;
+    println!(rt; "other {}", tally.other)?;
+    if let Some(row) = tally.first {
+        println!(rt; "first at row {row}")?;
     }
-    let reader = comparison.reader;
-    if !reader.ends_well() {
-        line(b"spoiled after row ", tally.rows);
+    if !comparison.reader.ends_well() {
+        println!(rt; "spoiled after row {}", tally.rows)?;
     }
+    Ok(())
+}
+
+fn main(rt: HostRuntime) -> io::Result<()> {
+    let zeros = [0u32; rows::WORDS];
+    let mut comparison = Comparison::new();
+    input::for_each_block(&rt, |bytes| comparison.feed_all(bytes, &zeros));
+    print_outcome(&rt, comparison)
 }

@@ -17,10 +17,10 @@ const INFINITE: u32 = 2139095040;
 pub fn bits_of(x: f32) -> u32
     ensures { result ≡ to_bits binary32 x }
 {
-    if x != x {
+    if x.is_nan() {
         return NOT_A_NUMBER;
     }
-    f32::to_bits(x)
+    x.to_bits()
 }
 
 // Above the bits of the infinities, but for the sign, every pattern is a not-a-number.
@@ -28,110 +28,80 @@ pub fn float_of(bits: u32) -> f32
     ensures { result ≡ of_bits binary32 bits }
 {
     if INFINITE < bits % 2147483648 {
-        return 0.0 / 0.0;
+        return f32::NAN;
     }
     f32::from_bits(bits)
 }
 
+#[tactic(auto, using(crate::specs::Rows::agrees, crate::specs::Rows::differs))]
 fn judge_numbers(row: Reader, fill: u16, level: f32, peak: f32, net: i64, change: i64) -> Verdict
     ensures { Judged (Numbers row fill level peak net change) result }
 {
-    if row.fields != 4 {
-        return Verdict::Differs;
+    if row.fields == 4
+        && row.a == u32::from(fill)
+        && row.b == bits_of(level)
+        && row.c == bits_of(peak)
+        && net == change
+    {
+        Verdict::Agrees
+    } else {
+        Verdict::Differs
     }
-    if row.a != fill as u32 {
-        return Verdict::Differs;
-    }
-    if row.b != bits_of(level) {
-        return Verdict::Differs;
-    }
-    if row.c != bits_of(peak) {
-        return Verdict::Differs;
-    }
-    if net != change {
-        return Verdict::Differs;
-    }
-    Verdict::Agrees
-}
-
-fn up(n: u32) -> i64
-    ensures { result ≡ pos n }
-{
-    n as i64
-}
-
-fn down(n: u32) -> i64
-    ensures { result ≡ pos 0 -ℤ pos n }
-{
-    0 - (n as i64)
 }
 
 // `u FILL LEVEL PEAK UP`, or `d FILL LEVEL PEAK DOWN`: so many units more are live, or so many fewer.
+#[tactic(auto, using(crate::specs::Rows::agrees, crate::specs::Rows::differs))]
 pub fn judge_told(row: Reader, fill: u16, level: f32, peak: f32, net: i64) -> Verdict
     ensures { Judged (ToldRow row fill level peak net) result }
 {
-    if row.letter == b'u' {
-        return judge_numbers(row, fill, level, peak, net, up(row.d));
+    match row.letter {
+        b'u' => judge_numbers(row, fill, level, peak, net, i64::from(row.d)),
+        b'd' => judge_numbers(row, fill, level, peak, net, -i64::from(row.d)),
+        _ => Verdict::Differs,
     }
-    if row.letter == b'd' {
-        return judge_numbers(row, fill, level, peak, net, down(row.d));
-    }
-    Verdict::Differs
 }
 
 // `x NUMBER`.
+#[tactic(auto, using(crate::specs::Rows::agrees, crate::specs::Rows::differs))]
 pub fn judge_refused(row: Reader, number: u32) -> Verdict
     ensures { Judged (RefusedRow row number) result }
 {
-    if row.letter != b'x' {
-        return Verdict::Differs;
+    if row.letter == b'x' && row.fields == 1 && row.d == number {
+        Verdict::Agrees
+    } else {
+        Verdict::Differs
     }
-    if row.fields != 1 {
-        return Verdict::Differs;
-    }
-    if row.d != number {
-        return Verdict::Differs;
-    }
-    Verdict::Agrees
 }
 
 // `k LEVEL PEAK LAST`: what is kept for the next reading.
+#[tactic(auto, using(crate::specs::Rows::agrees, crate::specs::Rows::differs))]
 pub fn judge_kept(row: Reader, level: f32, peak: f32, last: u32) -> Verdict
     ensures { Judged (KeptRow row level peak last) result }
 {
-    if row.letter != b'k' {
-        return Verdict::Differs;
+    if row.letter == b'k'
+        && row.fields == 3
+        && row.b == bits_of(level)
+        && row.c == bits_of(peak)
+        && row.d == last
+    {
+        Verdict::Agrees
+    } else {
+        Verdict::Differs
     }
-    if row.fields != 3 {
-        return Verdict::Differs;
-    }
-    if row.b != bits_of(level) {
-        return Verdict::Differs;
-    }
-    if row.c != bits_of(peak) {
-        return Verdict::Differs;
-    }
-    if row.d != last {
-        return Verdict::Differs;
-    }
-    Verdict::Agrees
 }
 
 // `s LEVEL`: the level has these bits, before the last reading and after it.
+#[tactic(auto, using(crate::specs::Rows::agrees, crate::specs::Rows::differs))]
 pub fn judge_still(row: Reader, before: f32, after: f32) -> Verdict
     ensures { Judged (StillRow row before after) result }
 {
-    if row.letter != b's' {
-        return Verdict::Differs;
+    if row.letter == b's'
+        && row.fields == 1
+        && row.d == bits_of(before)
+        && row.d == bits_of(after)
+    {
+        Verdict::Agrees
+    } else {
+        Verdict::Differs
     }
-    if row.fields != 1 {
-        return Verdict::Differs;
-    }
-    if row.d != bits_of(before) {
-        return Verdict::Differs;
-    }
-    if row.d != bits_of(after) {
-        return Verdict::Differs;
-    }
-    Verdict::Agrees
 }

@@ -6,26 +6,25 @@ use Rattle.tables.specs.Words.{Words, Edition, bounds}
 use Rattle.tables.specs.HandBack.{merge, plan_back, merging, do_back}
 use Rattle.tables.specs.Guards.{MergeGuards}
 use Rattle.tables.proofs.Commits as commits
-use Rattle.back_plan.specs.declared.Merged.{Merged as Joined}
-use Rattle.back_plan.specs.declared.Neighbor.{Neighbor}
+use Rattle.std.specs.Prelude.{Result, Ok}
+use Rattle.answers.specs.declared.Refusal.{Refusal}
 use Rattle.back_plan.specs.declared.Planned.{Planned}
-use Rattle.back_plan.specs.declared.Planned.TheVariants.{Merge}
 use Rattle.back_plan.specs.Plan.{merged_in, plan_of, UnderRecord}
 
 -- g is the model's plan, and it goes on
-module _ (w : Words) (span : Token) {g : Planned} {p x : Neighbor} {m : Joined} (same-plan : plan_of g ≡ plan_back w span)
-    (under : UnderRecord span.number g) (goes_on : g ≡ Merge p x m) where
-  found : plan_back w span ≡ merge p.link.0 x.link.0 p.free x.free (merged_in m)
+module _ (w : Words) (span : Token) {g : Result Planned Refusal} {p : Planned} (same-plan : plan_of g ≡ plan_back w span)
+    (under : UnderRecord span.number g) (goes_on : g ≡ Ok p) where
+  found : plan_back w span ≡ merge p.prev.link.0 p.next.link.0 p.prev.free p.next.free (merged_in p.merged)
   found = sym same-plan ∙ ap plan_of goes_on
 
-  same_record : m.record.0 ≡ span.number
-  same_record = subst (λ (h : Planned). UnderRecord span.number h) goes_on under
+  same_record : p.merged.record.0 ≡ span.number
+  same_record = subst (λ (h : Result Planned Refusal). UnderRecord span.number h) goes_on under
 
-  pub ready : MergeGuards w m.record.0 p.link.0 x.link.0 p.free x.free (merged_in m)
+  pub ready : MergeGuards w p.merged.record.0 p.prev.link.0 p.next.link.0 p.prev.free p.next.free (merged_in p.merged)
   ready = commits.merge_ready w span same_record found
 
-pub merged_back : (E : Edition) (w : Words) (span : Token) {v : Words} {g : Planned} {p x : Neighbor} {m : Joined} → plan_of g ≡ plan_back w span
-    → UnderRecord span.number g → g ≡ Merge p x m → v ≡ merging (bounds E w) w m.record.0 p.link.0 x.link.0 p.free x.free (merged_in m)
+pub merged_back : (E : Edition) (w : Words) (span : Token) {v : Words} {g : Result Planned Refusal} {p : Planned} → plan_of g ≡ plan_back w span
+    → UnderRecord span.number g → g ≡ Ok p → v ≡ merging (bounds E w) w p.merged.record.0 p.prev.link.0 p.next.link.0 p.prev.free p.next.free (merged_in p.merged)
     → (done, v) ≡ do_back E w span.number (plan_back w span)
 merged_back E w span same-plan under goes_on f =
     commits.merged_back E w span (same_record w span same-plan under goes_on) (found w span same-plan under goes_on) f

@@ -9,21 +9,15 @@ ghost use Rattle.tables.specs.HandBack.{merging};
 ghost use Rattle.tables.specs.Guards.{MergeGuards};
 ghost use Rattle.tables.specs.Promise.{Promise};
 ghost use Rattle.answers.specs.Asked.{token_of};
-ghost use Rattle.records.specs.InWords.{words_of, bound, HasRoom};
+ghost use Rattle.records.specs.InWords.{words_of, bound, HasRoom, outcome_of};
 ghost use Rattle.answers.specs.Answers.{back_says};
-ghost use Rattle.giving.specs.Answers.{outcome_of, handed_back};
+ghost use Rattle.giving.specs.Answers.{handed_back};
 ghost use Rattle.back_plan.specs.Plan.{merged_in};
 
-use answers::{Allocation, BackAnswer, Refusal};
+use answers::{Allocation, Refusal};
 use back_plan::{Merged, Neighbor, Planned};
-use records::gate::Gate;
+use records::answered::Answered;
 use records::totals::Totals;
-
-#[derive(Clone, Copy)]
-pub struct Returned {
-    pub answer: BackAnswer,
-    pub totals: Totals,
-}
 
 // The plan carried out. All its writes are here: without them the hand-back would be done in name alone.
 fn carry_out(
@@ -35,7 +29,7 @@ fn carry_out(
     used_bins: &mut [u8; 32],
     nodes: &mut [u32],
     free_nodes: &mut [u32],
-) -> Returned
+) -> Answered<()>
     requires has_room { HasRoom t.max_allocs nodes.old }
     requires max_allocs_in_bounds { t.max_allocs ≤ length free_nodes.old }
     requires merge_guards { MergeGuards (words_of t [] [] nodes.old []) m.record.0 prev.link.0 next.link.0 prev.free next.free (merged_in m) }
@@ -46,8 +40,8 @@ fn carry_out(
         m.record.0 prev.link.0 next.link.0 prev.free next.free (merged_in m) }
 {
     let totals = back_commit::merge(t, prev, next, m, bin_indices, used_bins, nodes, free_nodes);
-    Returned {
-        answer: BackAnswer::Done,
+    Answered {
+        answer: Ok(()),
         totals: totals,
     }
 }
@@ -60,22 +54,22 @@ fn give_back(
     used_bins: &mut [u8; 32],
     nodes: &mut [u32],
     free_nodes: &mut [u32],
-) -> Returned
+) -> Answered<()>
     requires has_room { HasRoom t.max_allocs nodes.old }
     requires max_allocs_in_bounds { t.max_allocs ≤ length free_nodes.old }
-    ensures { outcome_of result bin_indices.new used_bins.new nodes.new free_nodes.new
+    ensures { outcome_of (λ _. done) result bin_indices.new used_bins.new nodes.new free_nodes.new
         ≡ handed_back (token_of span) (words_of t bin_indices.old used_bins.old nodes.old free_nodes.old) }
 {
     match back_plan::plan(t, span, nodes) {
-        Planned::Stop(why) => Returned {
-            answer: BackAnswer::Refused(why),
+        Err(why) => Answered {
+            answer: Err(why),
             totals: t,
         },
-        Planned::Merge(prev, next, m) => carry_out(
+        Ok(Planned { prev, next, merged }) => carry_out(
             t,
             prev,
             next,
-            m,
+            merged,
             bin_indices,
             used_bins,
             nodes,
@@ -92,17 +86,17 @@ pub fn free(
     used_bins: &mut [u8; 32],
     nodes: &mut [u32],
     free_nodes: &mut [u32],
-) -> Returned
+) -> Answered<()>
     ensures { Promise edition32 (HandBack (token_of span))
         (words_of t bin_indices.old used_bins.old nodes.old free_nodes.old)
         (words_of result.totals bin_indices.new used_bins.new nodes.new free_nodes.new)
         (back_says result.answer) }
 {
     match records::gate::test(t.max_allocs, nodes, free_nodes, Refusal::Unsound) {
-        Gate::Shut(why) => Returned {
-            answer: BackAnswer::Refused(why),
+        Err(why) => Answered {
+            answer: Err(why),
             totals: t,
         },
-        Gate::Open => give_back(t, span, bin_indices, used_bins, nodes, free_nodes),
+        Ok(()) => give_back(t, span, bin_indices, used_bins, nodes, free_nodes),
     }
 }

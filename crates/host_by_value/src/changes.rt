@@ -31,7 +31,7 @@ pub fn ds_by_value_take(
     let answer = taken.answer;
     let head = taken.head;
     heads::keep(head, scalars, bins, leaves);
-    host_values::of_take(answer)
+    host_values::of_answer(answer)
 }
 
 // A span goes back.
@@ -57,5 +57,5 @@ pub fn ds_by_value_give(
     let answer = returned.answer;
     let head = returned.head;
     heads::keep(head, scalars, bins, leaves);
-    answer.number()
+    answers::number(answer)
 }

@@ -31,7 +31,7 @@ pub fn ds_by_value_size_of(
         offset,
         metadata: Handle(handle),
     };
-    host_values::of_size(head.allocation_size(span, nodes, pile))
+    host_values::of_answer(head.allocation_size(span, nodes, pile))
 }
 
 // The sum of the free lengths, and the value of the highest class that holds a region.
@@ -46,7 +46,7 @@ pub fn ds_by_value_report(
         (words_in scalars.now bins.now leaves.now nodes.now pile.now)) result }
 {
     let head = heads::of_arrays(scalars, bins, leaves);
-    host_values::of_report(head.storage_report(nodes, pile))
+    host_values::of_answer(head.storage_report(nodes, pile))
 }
 
 // The value of each class, and how many free regions it holds: two columns that the caller lends. Refused, both are zeros.
@@ -84,7 +84,7 @@ pub fn ds_by_value_fill(
         (words_in scalars.now bins.now leaves.now nodes.now pile.now)) result }
 {
     let head = heads::of_arrays(scalars, bins, leaves);
-    host_values::of_fill(head.fill(nodes, pile))
+    host_values::of_answer(head.fill(nodes, pile))
 }
 
 // Whether the words stand for a ledger: 0 if they do.
@@ -101,5 +101,5 @@ pub fn ds_by_value_audit(
         scratch.old scratch.new) result }
 {
     let head = heads::of_arrays(scalars, bins, leaves);
-    head.audit(nodes, pile, scratch).number()
+    answers::number(head.audit(nodes, pile, scratch))
 }

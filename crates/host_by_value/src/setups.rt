@@ -30,7 +30,7 @@ pub fn ds_by_value_set_up(
     let answer = started.answer;
     let head = started.head;
     heads::keep(head, scalars, bins, leaves);
-    answer.number()
+    answers::number(answer)
 }
 
 // The same with the count of records that the Rust takes by default.
@@ -50,7 +50,7 @@ pub fn ds_by_value_new(
     let answer = started.answer;
     let head = started.head;
     heads::keep(head, scalars, bins, leaves);
-    answer.number()
+    answers::number(answer)
 }
 
 // All spans are forgotten: the store is as after setup.
@@ -70,5 +70,5 @@ pub fn ds_by_value_reset(
     let answer = started.answer;
     let head = started.head;
     heads::keep(head, scalars, bins, leaves);
-    answer.number()
+    answers::number(answer)
 }

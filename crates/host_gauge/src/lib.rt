@@ -8,7 +8,8 @@ ghost use Rattle.host_values.specs.Kept.{words_in};
 ghost use Rattle.host_values.specs.Tells.{Tells};
 ghost use Rattle.host_gauge.specs.Readings.{watch_in, reading_told, Read};
 
-use gauge::{Gauge, ReadingAnswer};
+use answers::Refusal;
+use gauge::Gauge;
 use host_by_value::heads;
 use records::totals::Totals;
 use small_float::Size;
@@ -24,6 +25,7 @@ pub struct Watch {
 }
 
 // What a reading tells, with what to keep for the next: level, peak and last. Refused, these are as they came, and fill and net are 0.
+// A struct for C.
 #[repr(C)]
 #[derive(Clone, Copy)]
 pub struct Reading {
@@ -47,13 +49,13 @@ fn of_host(watch: Watch) -> gauge::Watch
     }
 }
 
-fn flat(answer: ReadingAnswer, kept: gauge::Watch) -> Reading
+fn flat(answer: Result<gauge::Reading, Refusal>, kept: gauge::Watch) -> Reading
     ensures { result ≡ reading_told (reading_says answer, watch_of kept) }
 {
     let now = kept.gauge;
     let last = kept.last;
     match answer {
-        ReadingAnswer::Read(reading) => Reading {
+        Ok(reading) => Reading {
             number: 0,
             fill: reading.fill as u32,
             level: now.level,
@@ -61,7 +63,7 @@ fn flat(answer: ReadingAnswer, kept: gauge::Watch) -> Reading
             last: last.0,
             net: reading.net,
         },
-        ReadingAnswer::Refused(why) => Reading {
+        Err(why) => Reading {
             number: why.number(),
             fill: 0,
             level: now.level,

@@ -5,9 +5,8 @@ use Prim.Native.Nat.{ℕ}
 use Rattle.tables.specs.Words.{Edition}
 use Rattle.records.specs.declared.totals.Totals.{Totals}
 use Rattle.records.specs.InWords.{words_of, in_array, of_array}
-use Rattle.journal.specs.declared.entry.Entry.{Entry}
-use Rattle.replaying.specs.declared.Outcome.{Outcome}
-use Rattle.replaying.specs.Steps.{Steps}
+use Rattle.journal.specs.Reading.{Entry}
+use Rattle.replaying.specs.Steps.{Outcome, Steps}
 use Rattle.host_values.specs.Kept.{words_in}
 use Rattle.host_values.proofs.Kept.{in_it}
 

@@ -1,12 +1,10 @@
 -- Any two results of writing and of a step coincide; proofs/OneResult.antt makes it. (What is read is given by an equation.) Assumes nothing.
-use Rattle.std.proofs.Math.Option.{Option}
-use Rattle.std.specs.Prelude.{List, ℕ}
+use Rattle.std.specs.Prelude.{List, ℕ, Option}
 use Rattle.tables.specs.Words.{Words, Edition}
 use Rattle.calls.specs.declared.Call.{Call}
-use Rattle.journal.specs.declared.entry.Wrote.{Wrote}
-use Rattle.journal.specs.declared.entry.Entry.{Entry}
-use Rattle.replaying.specs.declared.Outcome.{Outcome}
-use Rattle.replaying.specs.Steps.{Steps}
+use Rattle.journal.specs.Refusals.{Wrote}
+use Rattle.journal.specs.Reading.{Entry}
+use Rattle.replaying.specs.Steps.{Outcome, Steps}
 use Rattle.host_values.specs.OneResult.{OneOutcome}
 use Rattle.host_journal.specs.Written.{Writes}
 

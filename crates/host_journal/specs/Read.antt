@@ -1,9 +1,8 @@
 -- What stands at a place of a journal, in plain numbers. Assumes nothing.
-use Rattle.std.specs.Prelude.{ℕ, get_or}
+use Rattle.std.specs.Prelude.{ℕ, get_or, Some, None, Ok, Err}
 use Rattle.calls.specs.declared.Call.{Call}
 use Rattle.calls.specs.Values.{fields_of}
-use Rattle.journal.specs.declared.entry.Entry.{Entry}
-use Rattle.journal.specs.declared.entry.Entry.TheVariants.{Read, End, Refused}
+use Rattle.journal.specs.Reading.{Entry}
 use Rattle.journal.specs.Refusals.{broken_number}
 use Rattle.journal.specs.Writing.{kind_of}
 use Rattle.host_journal.specs.declared.reading.Entry as flat
@@ -22,6 +21,6 @@ abbrev pub no_call : (number : ℕ) → flat.Entry
 no_call number = record { number = number; kind = 0; first = 0; second = 0; next = 0 }
 
 abbrev pub entry_told : Entry → flat.Entry
-entry_told (Read c next) = call_told c next
-entry_told End = no_call 0
-entry_told (Refused why) = no_call (broken_number why)
+entry_told (Ok (Some found)) = call_told found.call found.next
+entry_told (Ok None) = no_call 0
+entry_told (Err why) = no_call (broken_number why)

@@ -9,10 +9,11 @@ ghost use Rattle.host_journal.specs.Stepped.{answer_told, stopped_told, step_tol
 
 use calls::Answer;
 use records::totals::Totals;
-use replaying::Outcome;
+use replaying::{Made, Outcome};
 
 // What came of a record: no byte was left (`ended` is 1); it could not be read (`broken` is its number); or its call was made, with the refusal's number,
-// and `granted` 1 beside offset and record where a take was granted. `next` is the place of the next record.
+// and `granted` 1 beside offset and record where a take was granted. `next` is the place of the next record. C reads it, so it is
+// numbers and no option.
 #[repr(C)]
 #[derive(Clone, Copy)]
 pub struct Step {
@@ -28,33 +29,26 @@ pub struct Step {
 fn answered(answer: Answer, next: usize) -> Step
     ensures { result ≡ answer_told answer next }
 {
+    let done = Step {
+        ended: 0,
+        broken: 0,
+        number: 0,
+        granted: 0,
+        offset: 0,
+        handle: 0,
+        next,
+    };
     match answer {
-        Answer::Done => Step {
-            ended: 0,
-            broken: 0,
-            number: 0,
-            granted: 0,
-            offset: 0,
-            handle: 0,
-            next,
-        },
-        Answer::Granted(span) => Step {
-            ended: 0,
-            broken: 0,
-            number: 0,
+        Ok(None) => done,
+        Ok(Some(span)) => Step {
             granted: 1,
             offset: span.offset,
             handle: span.metadata.0,
-            next,
+            ..done
         },
-        Answer::Refused(why) => Step {
-            ended: 0,
-            broken: 0,
+        Err(why) => Step {
             number: why.number(),
-            granted: 0,
-            offset: 0,
-            handle: 0,
-            next,
+            ..done
         },
     }
 }
@@ -78,9 +72,9 @@ fn flat(outcome: Outcome) -> Step
     ensures { result ≡ step_told outcome }
 {
     match outcome {
-        Outcome::Answered(answer, next) => answered(answer, next),
-        Outcome::AtEnd => stopped(1, 0),
-        Outcome::BrokenOff(why) => stopped(0, why.number()),
+        Ok(Some(Made { answer, next })) => answered(answer, next),
+        Ok(None) => stopped(1, 0),
+        Err(why) => stopped(0, why.number()),
     }
 }
 

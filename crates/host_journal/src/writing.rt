@@ -1,13 +1,14 @@
 // A record written into bytes that are lent.
 ghost use Rattle.std.specs.Prelude.{◌≡◌};
 ghost use Rattle.host_values.specs.Tells.{Tells};
-ghost use Rattle.host_journal.specs.Written.{named, known, flat_wrote, wrote_told, Writes};
+ghost use Rattle.host_journal.specs.Written.{named, flat_wrote, wrote_told, Writes};
 
 use answers::{Allocation, Handle};
 use calls::Call;
+use journal::entry::NoRoom;
 use small_float::Size;
 
-// The refusal's number, or the place behind the record.
+// The refusal's number, or the place behind the record. C reads it, so it is numbers and no result.
 #[repr(C)]
 #[derive(Clone, Copy)]
 pub struct Wrote {
@@ -15,36 +16,30 @@ pub struct Wrote {
     pub next: usize,
 }
 
-// A call that came as three numbers.
-#[derive(Clone, Copy)]
-pub enum Named {
-    Known(Call),
-    // its kind is none of the four
-    Unknown,
-}
-
-fn call_of(kind: u32, first: u32, second: u32) -> Named
-    ensures { known result ≡ named kind first second }
+// A call that came as three numbers; none where its kind is none of the four.
+#[tactic(auto, unfolding(crate::specs::Written::named))]
+fn call_of(kind: u32, first: u32, second: u32) -> Option<Call>
+    ensures { result ≡ named kind first second }
 {
     match kind {
-        1 => Named::Known(Call::Take(Size(first))),
+        1 => Some(Call::Take(Size(first))),
         // the record, then the offset
-        2 => Named::Known(Call::HandBack(Allocation {
+        2 => Some(Call::HandBack(Allocation {
             offset: second,
             metadata: Handle(first),
         })),
-        3 => Named::Known(Call::SetUp(Size(first), second)),
-        4 => Named::Known(Call::Reset),
-        _ => Named::Unknown,
+        3 => Some(Call::SetUp(Size(first), second)),
+        4 => Some(Call::Reset),
+        _ => None,
     }
 }
 
-fn flat(outcome: journal::entry::Wrote) -> Wrote
+fn flat(outcome: Result<usize, NoRoom>) -> Wrote
     ensures { result ≡ flat_wrote outcome }
 {
     match outcome {
-        journal::entry::Wrote::Before(next) => Wrote { number: 0, next },
-        journal::entry::Wrote::NoRoom => Wrote {
+        Ok(next) => Wrote { number: 0, next },
+        Err(_) => Wrote {
             number: 16,
             next: 0,
         },
@@ -63,8 +58,8 @@ pub extern "C" fn ds_journal_write(
     ensures { Tells wrote_told (Writes out.old at out.new (named kind first second)) result }
 {
     match call_of(kind, first, second) {
-        Named::Known(call) => flat(journal::writing::write(call, out, at)),
-        Named::Unknown => Wrote {
+        Some(call) => flat(journal::writing::write(call, out, at)),
+        None => Wrote {
             number: 14,
             next: 0,
         },

@@ -1,6 +1,5 @@
--- Moved: packet calls on scalars that were read from arrays and put into them. Figures: the number of a store. Fronts: a loop that copies a front.
+-- Moved: packet calls on scalars that were read from arrays and put into them. Fronts: a front that is copied.
 -- OneResult: any two results coincide.
 pub mod Moved
-pub mod Figures
 pub mod Fronts
 pub mod OneResult

@@ -1,11 +1,10 @@
 -- Stores, packets and answers of the packet layer in plain numbers. Assumes nothing.
-use Rattle.std.specs.Prelude.{◌≡◌, List, ◌++◌, ℕ, zero, suc, length, take, drop}
+use Rattle.std.specs.Prelude.{◌≡◌, List, ◌++◌, ℕ, length, take, drop}
 use Rattle.ledger.specs.Figures.{refusal_of}
 use Rattle.ledger.specs.Calls.{Call}
 use Rattle.tables.specs.Words.{Edition}
 use Rattle.packets.specs.declared.Packet as held
-use Rattle.packets.specs.declared.Store.{Store}
-use Rattle.packets.specs.declared.Store.TheVariants.{OnChip, External}
+pub use Rattle.packets.specs.ByNumber.{store_named, store_number, packet_held}
 use Rattle.packets.specs.Stores.{Two}
 use Rattle.packets.specs.Calls.{PacketCall, Answered, packet, shows, plain}
 use Rattle.packets.specs.Promise.{PacketPromise}
@@ -13,19 +12,7 @@ use Rattle.host_values.specs.declared.Told.{Told}
 use Rattle.host_values.specs.Told.{told_by, refused_by}
 use Rattle.host_packets.specs.declared.values.Packet.{Packet}
 
--- a number names a store, and a store is told by one
-abbrev pub store_named : ℕ → Store
-store_named zero = OnChip
-store_named (suc n) = External
-
-abbrev pub store_number : Store → ℕ
-store_number OnChip = 0
-store_number External = 1
-
--- a packet in that store
-abbrev pub packet_held : Store → (offset handle : ℕ) → held.Packet
-packet_held s offset handle = record { store = s; span = record { offset = offset; metadata = record { 0 = handle } } }
-
+-- a packet in the store that is named by a number
 abbrev pub packet_named : (store offset handle : ℕ) → held.Packet
 packet_named store offset handle = packet_held (store_named store) offset handle
 

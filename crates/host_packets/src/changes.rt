@@ -58,12 +58,9 @@ pub extern "C" fn ds_packet_take(
         ex_pile,
         ex_bytes,
     );
-    let on_after = taken.on_chip;
-    let ex_after = taken.external;
-    let answer = taken.answer;
-    host_values::keep(on_after, on_scalars);
-    host_values::keep(ex_after, ex_scalars);
-    values::of_grant(answer)
+    host_values::keep(taken.left.on_chip, on_scalars);
+    host_values::keep(taken.left.external, ex_scalars);
+    values::of_grant(taken.answer)
 }
 
 // A packet goes back.
@@ -102,10 +99,7 @@ pub extern "C" fn ds_packet_give(
         packet, on_chip, on_bins, on_leaves, on_nodes, on_pile, on_bytes, external, ex_bins,
         ex_leaves, ex_nodes, ex_pile, ex_bytes,
     );
-    let on_after = returned.on_chip;
-    let ex_after = returned.external;
-    let answer = returned.answer;
-    host_values::keep(on_after, on_scalars);
-    host_values::keep(ex_after, ex_scalars);
-    answer.number()
+    host_values::keep(returned.left.on_chip, on_scalars);
+    host_values::keep(returned.left.external, ex_scalars);
+    packets::number(returned.answer)
 }

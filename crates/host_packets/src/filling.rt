@@ -45,9 +45,8 @@ pub extern "C" fn ds_packet_fill(
     let packet = values::packet_of(store, offset, handle);
     let on_chip = Totals::of_array(on_scalars);
     let external = Totals::of_array(ex_scalars);
-    packet_filling::fill(
+    packets::number(packet_filling::fill(
         packet, new, on_chip, on_bins, on_leaves, on_nodes, on_pile, on_bytes, external, ex_bins,
         ex_leaves, ex_nodes, ex_pile, ex_bytes,
-    )
-    .number()
+    ))
 }

@@ -11,6 +11,7 @@ ghost use Rattle.host_packets.specs.Flat.{store_named, told_in};
 
 use crate::values;
 use host_values::Told;
+use packets::Store;
 use records::totals::Totals;
 
 // A packet's length.
@@ -32,15 +33,12 @@ pub extern "C" fn ds_packet_length(
     ex_pile: &[u32],
     ex_bytes: &[u8],
 ) -> Told
-    ensures { Tells (told_in (asks_size offset handle)) (PacketPromise edition32 (LengthOf (store_named store) (span_of offset handle))
-        (two (store_in on_scalars.now on_bins.now on_leaves.now
+    ensures { let t = two
+        (store_in on_scalars.now on_bins.now on_leaves.now
         on_nodes.now on_pile.now on_bytes.now)
         (store_in ex_scalars.now ex_bins.now ex_leaves.now
-        ex_nodes.now ex_pile.now ex_bytes.now))
-        (two (store_in on_scalars.now on_bins.now on_leaves.now
-        on_nodes.now on_pile.now on_bytes.now)
-        (store_in ex_scalars.now ex_bins.now ex_leaves.now
-        ex_nodes.now ex_pile.now ex_bytes.now))) result }
+        ex_nodes.now ex_pile.now ex_bytes.now)
+        in Tells (told_in (asks_size offset handle)) (PacketPromise edition32 (LengthOf (store_named store) (span_of offset handle)) t t) result }
 {
     let packet = values::packet_of(store, offset, handle);
     let on_chip = Totals::of_array(on_scalars);
@@ -68,17 +66,14 @@ pub extern "C" fn ds_packet_report(
     ex_pile: &[u32],
     ex_bytes: &[u8],
 ) -> Told
-    ensures { Tells (told_in (Ask Report)) (PacketPromise edition32 (ReportOf (store_named store))
-        (two (store_in on_scalars.now on_bins.now on_leaves.now
+    ensures { let t = two
+        (store_in on_scalars.now on_bins.now on_leaves.now
         on_nodes.now on_pile.now on_bytes.now)
         (store_in ex_scalars.now ex_bins.now ex_leaves.now
-        ex_nodes.now ex_pile.now ex_bytes.now))
-        (two (store_in on_scalars.now on_bins.now on_leaves.now
-        on_nodes.now on_pile.now on_bytes.now)
-        (store_in ex_scalars.now ex_bins.now ex_leaves.now
-        ex_nodes.now ex_pile.now ex_bytes.now))) result }
+        ex_nodes.now ex_pile.now ex_bytes.now)
+        in Tells (told_in (Ask Report)) (PacketPromise edition32 (ReportOf (store_named store)) t t) result }
 {
-    let meant = values::store_of(store);
+    let meant = Store::from(store);
     let on_chip = Totals::of_array(on_scalars);
     let external = Totals::of_array(ex_scalars);
     values::of_report(packet_asking::report(
@@ -112,12 +107,11 @@ pub extern "C" fn ds_packet_audit(
         ex_nodes.now ex_pile.now ex_bytes.now))
         scratch.old scratch.new) result }
 {
-    let meant = values::store_of(store);
+    let meant = Store::from(store);
     let on_chip = Totals::of_array(on_scalars);
     let external = Totals::of_array(ex_scalars);
-    packet_asking::audit(
+    packets::number(packet_asking::audit(
         meant, scratch, on_chip, on_bins, on_leaves, on_nodes, on_pile, on_bytes, external,
         ex_bins, ex_leaves, ex_nodes, ex_pile, ex_bytes,
-    )
-    .number()
+    ))
 }

@@ -1,5 +1,5 @@
 // Read: a part that is lent does not cross the boundary, so its front is copied out.
-ghost use Rattle.std.specs.Prelude.{◌≡◌, min, length};
+ghost use Rattle.std.specs.Prelude.{◌≡◌, length};
 ghost use Rattle.ledger.specs.Calls.{span_of};
 ghost use Rattle.packets.specs.Stores.{two};
 ghost use Rattle.packets.specs.Calls.{Read};
@@ -11,22 +11,12 @@ ghost use Rattle.tables.specs.Calls.{edition32};
 use crate::values;
 use records::totals::Totals;
 
-fn least(one: usize, other: usize) -> usize
-    ensures { result ≡ min one other }
-{
-    if one < other { one } else { other }
-}
-
 // As much of the part's front as there is room for; what lies behind it stays.
 fn copy_front(part: &[u8], out: &mut [u8])
     ensures { out.new ≡ fronted part.now out.old }
 {
-    let many = least(part.len(), out.len());
-    let mut i = 0;
-    while i < many {
-        out[i] = part[i];
-        i += 1;
-    }
+    let many = part.len().min(out.len());
+    out[..many].copy_from_slice(&part[..many]);
 }
 
 fn shown(part: &[u8], out: &mut [u8]) -> usize

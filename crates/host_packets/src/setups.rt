@@ -41,10 +41,8 @@ pub extern "C" fn ds_packet_set_up(
         other,
         bytes_beside,
     );
-    let totals = started.totals;
-    let answer = started.answer;
-    host_values::keep(totals, scalars);
-    answer.number()
+    host_values::keep(started.left, scalars);
+    packets::number(started.answer)
 }
 
 // Both stores, or neither.
@@ -93,10 +91,7 @@ pub extern "C" fn ds_packet_set_up_both(
         ex_pile,
         ex_bytes,
     );
-    let on_chip = started.on_chip;
-    let external = started.external;
-    let answer = started.answer;
-    host_values::keep(on_chip, on_scalars);
-    host_values::keep(external, ex_scalars);
-    answer.number()
+    host_values::keep(started.left.on_chip, on_scalars);
+    host_values::keep(started.left.external, ex_scalars);
+    packets::number(started.answer)
 }

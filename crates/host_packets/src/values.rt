@@ -2,15 +2,15 @@
 ghost use Rattle.std.specs.Prelude.{◌≡◌};
 ghost use Rattle.ledger.specs.Calls.{Token, Ask, SizeOf, Report};
 ghost use Rattle.packets.specs.Answers.{why_number, grant_says, length_says, report_says};
-ghost use Rattle.packets.specs.declared.PacketGrant.TheVariants.{Granted};
 ghost use Rattle.host_values.specs.Told.{refused_by};
-ghost use Rattle.host_packets.specs.Flat.{store_named, store_number, packet_named, packet_told, no_packet, told_in};
+ghost use Rattle.host_packets.specs.Flat.{packet_named, packet_told, no_packet, told_in};
 
-use answers::{Allocation, Handle};
+use answers::StorageReport;
 use host_values::Told;
-use packets::{PacketGrant, PacketLength, PacketRefusal, PacketReport, Store};
+use packets::{PacketRefusal, Store};
+use small_float::Size;
 
-// A packet that was granted, or the refusal's number.
+// A packet that was granted, or the refusal's number: a struct for C.
 #[repr(C)]
 #[derive(Clone, Copy)]
 pub struct Packet {
@@ -20,49 +20,21 @@ pub struct Packet {
     pub handle: u32,
 }
 
-// 0 is on chip, any other number external.
-pub fn store_of(store: u32) -> Store
-    ensures { result ≡ store_named store }
-{
-    if store == 0 {
-        return Store::OnChip;
-    }
-    Store::External
-}
-
 // A packet that came as three numbers.
 pub fn packet_of(store: u32, offset: u32, handle: u32) -> packets::Packet
     ensures { result ≡ packet_named store offset handle }
 {
-    let span = Allocation {
-        offset,
-        metadata: Handle(handle),
-    };
-    packets::Packet {
-        store: store_of(store),
-        span,
-    }
-}
-
-fn number_of(store: Store) -> u32
-    ensures { result ≡ store_number store }
-{
-    match store {
-        Store::OnChip => 0,
-        Store::External => 1,
-    }
+    packets::Packet::named(Store::from(store), offset, handle)
 }
 
 fn granted(packet: packets::Packet) -> Packet
-    ensures { result ≡ packet_told (grant_says (Granted packet)) }
+    ensures { result ≡ packet_told (grant_says (Ok packet)) }
 {
-    let span = packet.span;
-    let store = packet.store;
     Packet {
         number: 0,
-        store: number_of(store),
-        offset: span.offset,
-        handle: span.metadata.0,
+        store: u32::from(packet.store),
+        offset: packet.span.offset,
+        handle: packet.span.metadata.0,
     }
 }
 
@@ -77,12 +49,12 @@ fn no_packet(why: PacketRefusal) -> Packet
     }
 }
 
-pub fn of_grant(answer: PacketGrant) -> Packet
+pub fn of_grant(answer: Result<packets::Packet, PacketRefusal>) -> Packet
     ensures { result ≡ packet_told (grant_says answer) }
 {
     match answer {
-        PacketGrant::Granted(packet) => granted(packet),
-        PacketGrant::Refused(why) => no_packet(why),
+        Ok(packet) => granted(packet),
+        Err(why) => no_packet(why),
     }
 }
 
@@ -96,28 +68,29 @@ fn of_refusal(why: PacketRefusal) -> Told
     }
 }
 
-pub fn of_length(answer: PacketLength) -> Told
+// This and the next are two, though alike: as one over `host_values::Shown`, tried, the calls that give them out find no proof.
+pub fn of_length(answer: Result<Size, PacketRefusal>) -> Told
     ensures { (span : Token) → result ≡ told_in (Ask (SizeOf span)) (length_says answer) }
 {
     match answer {
-        PacketLength::Length(size) => Told {
+        Ok(size) => Told {
             number: 0,
             first: size.0,
             second: 0,
         },
-        PacketLength::Refused(why) => of_refusal(why),
+        Err(why) => of_refusal(why),
     }
 }
 
-pub fn of_report(answer: PacketReport) -> Told
+pub fn of_report(answer: Result<StorageReport, PacketRefusal>) -> Told
     ensures { result ≡ told_in (Ask Report) (report_says answer) }
 {
     match answer {
-        PacketReport::Report(report) => Told {
+        Ok(report) => Told {
             number: 0,
             first: report.total_free_space.0,
             second: report.largest_free_region.0,
         },
-        PacketReport::Refused(why) => of_refusal(why),
+        Err(why) => of_refusal(why),
     }
 }

@@ -31,7 +31,7 @@ pub extern "C" fn ds_take(
     let after_take = taken.totals;
     let answer = taken.answer;
     host_values::keep(after_take, scalars);
-    host_values::of_take(answer)
+    host_values::of_answer(answer)
 }
 
 // A span goes back.
@@ -58,5 +58,5 @@ pub extern "C" fn ds_give(
     let after_return = returned.totals;
     let answer = returned.answer;
     host_values::keep(after_return, scalars);
-    answer.number()
+    answers::number(answer)
 }

@@ -7,15 +7,16 @@ ghost use Rattle.starting.specs.Lengths.{LengthsFor};
 ghost use Rattle.host_values.specs.Tells.{Tells};
 ghost use Rattle.host_spans.specs.Classes.{class_or_256, smallest_told, lengths_told};
 
+use answers::Refusal;
 use host_values::Told;
-use small_float::ext::Smallest;
-use small_float::{Class, RoundedUp, Size};
-use starting::lengths::LengthsAnswer;
+use small_float::ext::TooLarge;
+use small_float::{Class, Size};
+use starting::lengths;
 
-// What stands for no class: one more than the highest that a full report has.
+// What stands for no class where C is told: one more than the highest that a full report has.
 pub const NO_CLASS: u32 = 256;
 
-// The lengths in words of the tables that are lent, and of the audit's scratch.
+// The lengths in words of the tables that are lent, and of the audit's scratch: a struct for C.
 #[repr(C)]
 #[derive(Clone, Copy)]
 pub struct Lengths {
@@ -39,8 +40,8 @@ pub extern "C" fn ds_class_up(size: u32) -> u32
     ensures { result ≡ class_or_256 (rounded_up size) }
 {
     match small_float::uint_to_float_round_up(Size(size)) {
-        RoundedUp::To(class) => class.0,
-        RoundedUp::NoClass => NO_CLASS,
+        Some(class) => class.0,
+        None => NO_CLASS,
     }
 }
 
@@ -52,16 +53,16 @@ pub extern "C" fn ds_class_value(class: u32) -> u64
     small_float::float_to_uint(Class(class))
 }
 
-fn told_of_smallest(answer: Smallest) -> Told
+fn told_of_smallest(answer: Result<Size, TooLarge>) -> Told
     ensures { result ≡ smallest_told answer }
 {
     match answer {
-        Smallest::Store(size) => Told {
+        Ok(size) => Told {
             number: 0,
             first: size.0,
             second: 0,
         },
-        Smallest::TooLarge => Told {
+        Err(TooLarge) => Told {
             number: 7,
             first: 0,
             second: 0,
@@ -77,17 +78,17 @@ pub extern "C" fn ds_smallest_store(object: u32) -> Told
     told_of_smallest(small_float::ext::min_allocator_size(Size(object)))
 }
 
-fn flat_lengths(answer: LengthsAnswer) -> Lengths
+fn flat_lengths(answer: Result<lengths::Lengths, Refusal>) -> Lengths
     ensures { result ≡ lengths_told answer }
 {
     match answer {
-        LengthsAnswer::Needed(lengths) => Lengths {
+        Ok(needed) => Lengths {
             number: 0,
-            nodes: lengths.nodes,
-            pile: lengths.free_nodes,
-            scratch: lengths.scratch,
+            nodes: needed.nodes,
+            pile: needed.free_nodes,
+            scratch: needed.scratch,
         },
-        LengthsAnswer::Refused(why) => Lengths {
+        Err(why) => Lengths {
             number: why.number(),
             nodes: 0,
             pile: 0,
@@ -101,5 +102,5 @@ fn flat_lengths(answer: LengthsAnswer) -> Lengths
 pub extern "C" fn ds_table_lengths(count: u32) -> Lengths
     ensures { Tells lengths_told (LengthsFor edition32 count) result }
 {
-    flat_lengths(starting::lengths::table_lengths(count))
+    flat_lengths(lengths::table_lengths(count))
 }

@@ -26,7 +26,7 @@ pub extern "C" fn ds_take_lent(
         (words_in scalars.old bins.old leaves.old nodes.old pile.now)
         (words_in scalars.new bins.new leaves.new nodes.new pile.now)) result }
 {
-    host_values::of_take(lending::allocate(scalars, Size(size), bins, leaves, nodes, pile))
+    host_values::of_answer(lending::allocate(scalars, Size(size), bins, leaves, nodes, pile))
 }
 
 // A span goes back.
@@ -48,5 +48,5 @@ pub extern "C" fn ds_give_lent(
         offset,
         metadata: Handle(handle),
     };
-    lending::free(scalars, span, bins, leaves, nodes, pile).number()
+    answers::number(lending::free(scalars, span, bins, leaves, nodes, pile))
 }

@@ -31,7 +31,7 @@ pub extern "C" fn ds_size_of(
         offset,
         metadata: Handle(handle),
     };
-    host_values::of_size(asking::allocation_size(t, span, bins, leaves, nodes, pile))
+    host_values::of_answer(asking::allocation_size(t, span, bins, leaves, nodes, pile))
 }
 
 // The sum of the free lengths, and the value of the highest class that holds a region.
@@ -47,7 +47,7 @@ pub extern "C" fn ds_report(
         (words_in scalars.now bins.now leaves.now nodes.now pile.now)) result }
 {
     let t = Totals::of_array(scalars);
-    host_values::of_report(asking::storage_report(t, bins, leaves, nodes, pile))
+    host_values::of_answer(asking::storage_report(t, bins, leaves, nodes, pile))
 }
 
 // The value of each class, and how many free regions it holds: two columns that the caller lends. Refused, both are zeros.
@@ -87,7 +87,7 @@ pub extern "C" fn ds_fill(
         (words_in scalars.now bins.now leaves.now nodes.now pile.now)) result }
 {
     let t = Totals::of_array(scalars);
-    host_values::of_fill(asking::fill(t, bins, leaves, nodes, pile))
+    host_values::of_answer(asking::fill(t, bins, leaves, nodes, pile))
 }
 
 // Whether the words stand for a ledger: 0 if they do.
@@ -105,5 +105,5 @@ pub extern "C" fn ds_audit(
         scratch.old scratch.new) result }
 {
     let t = Totals::of_array(scalars);
-    auditing::audit(t, bins, leaves, nodes, pile, scratch).number()
+    answers::number(auditing::audit(t, bins, leaves, nodes, pile, scratch))
 }

@@ -29,7 +29,7 @@ pub extern "C" fn ds_set_up(
     let totals = started.totals;
     let answer = started.answer;
     host_values::keep(totals, scalars);
-    answer.number()
+    answers::number(answer)
 }
 
 // The same with the count of records that the Rust takes by default.
@@ -50,7 +50,7 @@ pub extern "C" fn ds_new(
     let totals = started.totals;
     let answer = started.answer;
     host_values::keep(totals, scalars);
-    answer.number()
+    answers::number(answer)
 }
 
 // All spans are forgotten: the store is as after setup.
@@ -71,5 +71,5 @@ pub extern "C" fn ds_reset(
     let totals = started.totals;
     let answer = started.answer;
     host_values::keep(totals, scalars);
-    answer.number()
+    answers::number(answer)
 }

@@ -1,11 +1,12 @@
 -- One answer, flattened, is one result; a promise fixes its answer and what it leaves. Assumes nothing.
+use Rattle.std.specs.Prelude.{Result}
+use Rattle.answers.specs.declared.Refusal.{Refusal}
 use mathlib.Core.Path.{◌≡◌, sym, ap, ◌∙◌}
 use mathlib.Core.List.{List}
 use Prim.Native.Nat.{ℕ}
 use Rattle.tables.specs.Words.{Words, Edition}
 use Rattle.tables.proofs.Promise.{answers_same, words_same, one_setup}
 use Rattle.ledger.specs.Ledger.{Answer}
-use Rattle.answers.specs.declared.FullOutcome.{FullOutcome}
 use Rattle.answers.specs.declared.FullAnswer.{FullAnswer}
 use Rattle.answers.proofs.OneValue.{one_value}
 use Rattle.records.specs.InWords.{in_array, totals_in}
@@ -34,10 +35,10 @@ pub one_told : {A R : Type 0} (flat : A → R) (Promised : A → Type 0) → ((a
 one_told flat Promised one r s p q = p.told ∙ ap flat (one p.given q.given p.promised q.promised) ∙ sym q.told
 
 -- the columns with their outcome are an answer of the code
-abbrev full : (sizes counts : List ℕ) → FullOutcome → FullAnswer
+abbrev full : (sizes counts : List ℕ) → Result Unit Refusal → FullAnswer
 full sizes counts o = record { outcome = o; sizes = sizes; counts = counts }
 
-one_full : (E : Edition) (w : Words) → OneOutcome {A = FullOutcome} {Left = List ℕ × List ℕ} (λ columns. FullTold E w columns.0 columns.1)
+one_full : (E : Edition) (w : Words) → OneOutcome {A = Result Unit Refusal} {Left = List ℕ × List ℕ} (λ columns. FullTold E w columns.0 columns.1)
 one_full E w v u o n p q =
     let same = one_value.of_full (full v.0 v.1 o) (full u.0 u.1 n) p.places q.places p.figures q.figures
     (answers_same E p.exact q.exact) in

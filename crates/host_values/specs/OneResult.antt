@@ -1,11 +1,11 @@
 -- Any two results that a contract of this shape allows coincide, with all that was left, if any two that the call promises do; and those do. Assumes
 -- nothing.
-use Rattle.std.specs.Prelude.{◌≡◌, List, ℕ, length}
+use Rattle.answers.specs.declared.Refusal.{Refusal}
+use Rattle.std.specs.Prelude.{◌≡◌, List, ℕ, length, Result}
 use Rattle.ledger.specs.Calls.{Call}
 use Rattle.tables.specs.Words.{Words, Edition}
 use Rattle.tables.specs.Setup.{Lent}
 use Rattle.tables.specs.Promise.{Promise, SetupPromise}
-use Rattle.answers.specs.declared.FullOutcome.{FullOutcome}
 use Rattle.host_values.specs.Tells.{Tells}
 use Rattle.host_values.specs.Told.{FullTold}
 use Rattle.host_values.specs.Kept.{words_in}
@@ -22,6 +22,6 @@ pub record OneResult {A R Left : Type 0} (flat : A → R) (Promised : Left → A
 pub record OnePromised (E : Edition) : Type 0 where
   pub of_call : (c : Call) (w : Words) → OneOutcome (Promise E c w)
   pub of_setup : (size count : ℕ) (lent : Lent) → OneOutcome (SetupPromise E size count lent)
-  pub of_full : (w : Words) → OneOutcome {A = FullOutcome} {Left = List ℕ × List ℕ} (λ columns. FullTold E w columns.0 columns.1)
+  pub of_full : (w : Words) → OneOutcome {A = Result Unit Refusal} {Left = List ℕ × List ℕ} (λ columns. FullTold E w columns.0 columns.1)
   -- the words that are left are a program's arrays, of which those of the scalars are given by them too
   pub same_scalars : (s t hs ls ns ps gs ks ms qs : List ℕ) → length s ≡ 5 → length t ≡ 5 → words_in s hs ls ns ps ≡ words_in t gs ks ms qs → s ≡ t

@@ -3,16 +3,17 @@
 #![tactic(auto)]
 
 ghost use Rattle.std.specs.Prelude.{◌≡◌};
-ghost use Rattle.ledger.specs.Calls.{Request, Token, Take, Ask, SizeOf, Report, Fill};
-ghost use Rattle.answers.specs.Answers.{take_says, size_says, report_says, fill_says};
+ghost use Rattle.ledger.specs.Calls.{Call};
+ghost use Rattle.answers.specs.Answers.{says};
 ghost use Rattle.answers.specs.Refusals.{number_of};
 ghost use Rattle.records.specs.InWords.{in_array};
 ghost use Rattle.host_values.specs.Told.{told_by, refused_by};
 
-use answers::{FillAnswer, Refusal, ReportAnswer, SizeAnswer, TakeAnswer};
+use answers::{Allocation, Fill, Refusal, Said, StorageReport};
 use records::totals::Totals;
+use small_float::Size;
 
-// The refusal's number, and at most two figures.
+// The refusal's number, and at most two figures: a struct for C.
 #[repr(C)]
 #[derive(Clone, Copy)]
 pub struct Told {
@@ -32,59 +33,62 @@ pub fn of_refusal(why: Refusal) -> Told
     }
 }
 
+// The figures of what a call grants or tells; no other call's answer could be taken for it, so they are the same under any.
+pub trait Shown: Said {
+    fn shown(self) -> Told
+        ensures { (c : Call) → result ≡ told_by c (Self.said self) };
+}
+
 // The offset, then the record.
-pub fn of_take(answer: TakeAnswer) -> Told
-    ensures { (asked : Request) → result ≡ told_by (Take asked) (take_says answer) }
-{
-    match answer {
-        TakeAnswer::Granted(span) => Told {
+impl Shown for Allocation {
+    fn shown(self) -> Told {
+        Told {
             number: 0,
-            first: span.offset,
-            second: span.metadata.0,
-        },
-        TakeAnswer::Refused(why) => of_refusal(why),
+            first: self.offset,
+            second: self.metadata.0,
+        }
     }
 }
 
 // The length.
-pub fn of_size(answer: SizeAnswer) -> Told
-    ensures { (span : Token) → result ≡ told_by (Ask (SizeOf span)) (size_says answer) }
-{
-    match answer {
-        SizeAnswer::Length(size) => Told {
+impl Shown for Size {
+    fn shown(self) -> Told {
+        Told {
             number: 0,
-            first: size.0,
+            first: self.0,
             second: 0,
-        },
-        SizeAnswer::Refused(why) => of_refusal(why),
+        }
     }
 }
 
 // The sum of the free lengths, then the value of the highest class that holds a region.
-pub fn of_report(answer: ReportAnswer) -> Told
-    ensures { result ≡ told_by (Ask Report) (report_says answer) }
-{
-    match answer {
-        ReportAnswer::Report(report) => Told {
+impl Shown for StorageReport {
+    fn shown(self) -> Told {
+        Told {
             number: 0,
-            first: report.total_free_space.0,
-            second: report.largest_free_region.0,
-        },
-        ReportAnswer::Refused(why) => of_refusal(why),
+            first: self.total_free_space.0,
+            second: self.largest_free_region.0,
+        }
     }
 }
 
 // The live units, then the fill.
-pub fn of_fill(answer: FillAnswer) -> Told
-    ensures { result ≡ told_by (Ask Fill) (fill_says answer) }
+impl Shown for Fill {
+    fn shown(self) -> Told {
+        Told {
+            number: 0,
+            first: self.live.0,
+            second: self.fill as u32,
+        }
+    }
+}
+
+pub fn of_answer<T: Shown>(answer: Result<T, Refusal>) -> Told
+    ensures { (c : Call) → result ≡ told_by c (says T.said answer) }
 {
     match answer {
-        FillAnswer::Told(told) => Told {
-            number: 0,
-            first: told.live.0,
-            second: told.fill as u32,
-        },
-        FillAnswer::Refused(why) => of_refusal(why),
+        Ok(granted) => granted.shown(),
+        Err(why) => of_refusal(why),
     }
 }
 

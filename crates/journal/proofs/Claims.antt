@@ -10,10 +10,9 @@ use Rattle.basics.proofs.Decided.{below, beyond, below?}
 use Rattle.calls.specs.declared.Call.{Call}
 use Rattle.calls.specs.declared.Call.TheVariants.{Take, HandBack, SetUp, Reset}
 use Rattle.journal.specs.declared.entry.Broken.TheVariants.{Cut, UnknownKind, WrongLength}
-use Rattle.journal.specs.declared.entry.Entry.TheVariants.{End, Refused}
 use Rattle.journal.specs.Bytes.{in_bytes, AllBytes}
 use Rattle.journal.specs.Writing.{kind_of, in_fields, body_of, record_of, journal_of}
-use Rattle.journal.specs.Reading.{length_in, kind_in, field_in, call_of, judged, read_at}
+use Rattle.journal.specs.Reading.{End, Refused, length_in, kind_in, field_in, call_of, judged, read_at}
 use Rattle.journal.specs.Claims.{example_calls, example_bytes, Whole, JournalClaims}
 use Rattle.journal.proofs.KnownKinds.{judged_wrong}
 use Rattle.journal.proofs.Places.{here_end, here_short, here_cut, here_low, here_whole}

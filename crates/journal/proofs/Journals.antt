@@ -5,17 +5,16 @@ use mathlib.Core.Path.{◌≡◌, refl, sym, ap, subst, ◌∙◌}
 use mathlib.Core.List.{List, [], ◌∷◌, ◌++◌, append_assoc}
 use lib.ListN.{length, take, drop, length-drop, take-append-drop}
 use lib.Seq.{drop-drop}
+use Rattle.std.specs.Prelude.{Some, None, Ok, Err}
 use Rattle.basics.proofs.Clash.{clash}
 use Rattle.basics.proofs.Decided.{below, beyond, below?}
 use Rattle.calls.specs.declared.Call.{Call}
-use Rattle.journal.specs.declared.entry.Entry.{Entry}
-use Rattle.journal.specs.declared.entry.Entry.TheVariants.{Read, End, Refused}
 use Rattle.journal.specs.Bytes.{AllBytes}
 use Rattle.journal.specs.Writing.{record_of, journal_of}
-use Rattle.journal.specs.Reading.{read_at, Ending, ended, broken, Holds, no_more, breaks, one_more}
+use Rattle.journal.specs.Reading.{Entry, Read, End, read_at, Ending, ended, broken, Holds, no_more, breaks, one_more}
 use Rattle.journal.specs.Claims.{AllCallsFit}
 use Rattle.journal.proofs.Places.{not_at_end}
-use Rattle.journal.proofs.WasWritten.{read_means, was_written}
+use Rattle.journal.proofs.WasWritten.{same_read, read_means, was_written}
 
 -- reading goes on
 further : (bytes : List ℕ) (at next : ℕ) (c : Call) → read_at bytes at ≡ Read c next → (at < next) × (at < length bytes)
@@ -37,9 +36,11 @@ holds_within zero bytes at few = absurd (omega (arith, few))
 holds_within (suc steps) bytes at few = go (read_at bytes at) refl (λ next near. holds_within steps bytes next near)
   where
     go : (found : Entry) → read_at bytes at ≡ found → ((next : ℕ) → length bytes - next < steps → HoldsSome bytes next) → HoldsSome bytes at
-    go End e later = record { calls = []; end = ended; holds = no_more e }
-    go (Refused why) e later = record { calls = []; end = broken why; holds = breaks e }
-    go (Read c next) e later =
+    go (Ok None) e later = record { calls = []; end = ended; holds = no_more e }
+    go (Err why) e later = record { calls = []; end = broken why; holds = breaks e }
+    go (Ok (Some found)) e later =
+        let c : Call = found.call in
+        let next : ℕ = found.next in
         let on = further bytes at next c e in
         let less = on.0 in
         let inside = on.1 in
@@ -64,11 +65,10 @@ holds_one (breaks e) (one_more f k) = clash (cc)
 holds_one (one_more e h) (no_more f) = clash (cc)
 holds_one (one_more e h) (breaks f) = clash (cc)
 holds_one {bytes = bytes} (one_more {next = next} {c = c} {cs = cs} {end = end} e h) (one_more {next = other} {c = d} {cs = ds} {end = end'} f k) =
-    let calls : c ≡ d = cc in
-    let places : next ≡ other = cc in
-    let there : Holds bytes other cs end = subst (λ (p : ℕ). Holds bytes p cs end) places h in
+    let same = same_read c d next other (sym e ∙ f) in
+    let there : Holds bytes other cs end = subst (λ (p : ℕ). Holds bytes p cs end) same.1 h in
     let rest = holds_one {bytes = bytes} {at = other} {cs = cs} {ds = ds} {end = end} {other = end'} there k in
-    ((λ i. calls i ∷ rest.0 i), rest.1)
+    ((λ i. same.0 i ∷ rest.0 i), rest.1)
 
 -- ---- what it holds was written
 none_left : (l : List ℕ) → length l ≤ 0 → l ≡ []

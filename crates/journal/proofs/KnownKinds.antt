@@ -1,25 +1,24 @@
 -- A record of a known kind, judged by its length. Assumes nothing.
 use Prim.Native.Nat.{ℕ, ◌+◌, ◌*◌}
 use mathlib.Core.Path.{◌≡◌, sym, ap, ◌∙◌}
-use mathlib.Core.Option.{some}
+use Rattle.std.specs.Prelude.{Some}
 use mathlib.Core.List.{List}
 use borrow.Author.Tests.{eq-eqb, ne_eqb}
 use lib.ListN.{length, take, drop}
 use lib.Seq.{drop-drop}
 use Rattle.calls.specs.declared.Call.{Call}
 use Rattle.journal.specs.declared.entry.Broken.TheVariants.{UnknownKind, WrongLength}
-use Rattle.journal.specs.declared.entry.Entry.TheVariants.{Read, Refused}
 use Rattle.journal.specs.Bytes.{number}
 use Rattle.journal.specs.Writing.{body_of}
-use Rattle.journal.specs.Reading.{field_in, call_of, judged}
+use Rattle.journal.specs.Reading.{Read, Refused, field_in, call_of, judged}
 
 -- a length other than its own record's
-pub judged_wrong : (named at : ℕ) (c : Call) → (named ≡ length (body_of c) → ⊥) → Refused WrongLength ≡ judged named at (some c)
+pub judged_wrong : (named at : ℕ) (c : Call) → (named ≡ length (body_of c) → ⊥) → Refused WrongLength ≡ judged named at (Some c)
 unfolding judged
 judged_wrong named at c h = rw (ne_eqb named (length (body_of c)) h)
 
 -- the call that was found, if it is the one with the fields there
-pub judged_right : (named at : ℕ) (c d : Call) → named ≡ length (body_of c) → d ≡ c → Read d (at + (2 + named)) ≡ judged named at (some c)
+pub judged_right : (named at : ℕ) (c d : Call) → named ≡ length (body_of c) → d ≡ c → Read d (at + (2 + named)) ≡ judged named at (Some c)
 unfolding judged
 judged_right named at c d h e = rw (eq-eqb named (length (body_of c)) h, e)
 

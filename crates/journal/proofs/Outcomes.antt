@@ -8,8 +8,7 @@ use lib.Dec.{leb}
 use lib.ListN.{length}
 use lib.Seq.{sets}
 use Rattle.calls.specs.declared.Call.{Call}
-use Rattle.journal.specs.declared.entry.Wrote.{Wrote}
-use Rattle.journal.specs.declared.entry.Wrote.TheVariants.{Before, NoRoom}
+use Rattle.journal.specs.Refusals.{Wrote, Before, NoRoom}
 use Rattle.journal.specs.Writing.{record_of, Written}
 use Rattle.journal.proofs.Stores.{stored}
 

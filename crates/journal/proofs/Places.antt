@@ -3,7 +3,7 @@ use Prim.Native.Nat.{ℕ, ◌+◌, ◌-◌, ◌≤◌, ◌<◌}
 use native.Mathlib.Omega.{arith}
 use mathlib.Core.Path.{◌≡◌, sym, ap, ◌∙◌}
 use mathlib.Core.Bool.{Bool, cond}
-use mathlib.Core.Option.{Option, none, some}
+use Rattle.std.specs.Prelude.{Option, None, Some}
 use mathlib.Core.List.{List}
 use borrow.Author.Tests.{eq-eqb, ne_eqb, lt-ltb, le-ltb}
 use lib.ListN.{length, take, drop, length-drop}
@@ -11,16 +11,15 @@ use Rattle.basics.proofs.Clash.{clash}
 use Rattle.basics.proofs.Decided.{same, differ, same?, below, beyond, below?}
 use Rattle.calls.specs.declared.Call.{Call}
 use Rattle.journal.specs.declared.entry.Broken.TheVariants.{Cut, WrongLength}
-use Rattle.journal.specs.declared.entry.Entry.TheVariants.{Read, End, Refused}
 use Rattle.journal.specs.Bytes.{number}
 use Rattle.journal.specs.Writing.{body_of}
-use Rattle.journal.specs.Reading.{length_in, kind_in, call_of, judged, read_here, read_at}
+use Rattle.journal.specs.Reading.{Read, End, Refused, length_in, kind_in, call_of, judged, read_here, read_at}
 
 -- a record of some kind is no end
 judged_no_end : (named at : ℕ) (found : Option Call) → judged named at found ≡ End → ⊥
 unfolding judged
-judged_no_end named at none e = clash (cc)
-judged_no_end named at (some c) e = elim (same? named (length (body_of c))) [
+judged_no_end named at None e = clash (cc)
+judged_no_end named at (Some c) e = elim (same? named (length (body_of c))) [
   | same p t ↦
       let read : Read c (at + (2 + named)) ≡ End = sym (ap (λ (b : Bool). cond b (Read c (at + (2 + named))) (Refused WrongLength)) t) ∙ e in
       clash (cc)

@@ -2,17 +2,16 @@
 use Prim.Native.Nat.{ℕ, ◌+◌, ◌≤◌}
 use native.Mathlib.Omega.{arith}
 use mathlib.Core.Path.{◌≡◌, refl, sym, ap, subst, ◌∙◌}
-use mathlib.Core.Option.{some}
+use Rattle.std.specs.Prelude.{Some}
 use mathlib.Core.List.{List, [], ◌∷◌, ◌++◌, append_assoc}
 use lib.ListN.{length, length-append}
 use lib.Seq.{drop-append_seam}
 use Rattle.calls.specs.declared.Call.{Call}
 use Rattle.calls.specs.declared.Call.TheVariants.{Take, HandBack, SetUp, Reset}
 use Rattle.calls.specs.Values.{Fits}
-use Rattle.journal.specs.declared.entry.Entry.TheVariants.{Read}
 use Rattle.journal.specs.Bytes.{in_bytes, number}
 use Rattle.journal.specs.Writing.{in_fields, body_of, record_of, journal_of}
-use Rattle.journal.specs.Reading.{length_in, kind_in, field_in, call_of, judged, read_here, read_at, ended, Holds, no_more, one_more}
+use Rattle.journal.specs.Reading.{Read, length_in, kind_in, field_in, call_of, judged, read_here, read_at, ended, Holds, no_more, one_more}
 use Rattle.journal.specs.Claims.{AllCallsFit}
 use Rattle.journal.specs.Writing.{kind_of}
 use Rattle.journal.proofs.Numbers.{made_again}
@@ -35,17 +34,17 @@ kind_own (SetUp size count) after = refl
 kind_own Reset after = refl
 
 -- and so do its fields
-call_own : (c : Call) (after : List ℕ) → Fits c → call_of (kind_of c) (record_of c ++ after) ≡ some c
+call_own : (c : Call) (after : List ℕ) → Fits c → call_of (kind_of c) (record_of c ++ after) ≡ Some c
 unfolding call_of field_in number record_of body_of in_fields in_bytes
-call_own (Take size) after fits = ap (λ (n : ℕ). some (Take record { 0 = n })) (made_again 4 size.0 fits.0)
+call_own (Take size) after fits = ap (λ (n : ℕ). Some (Take record { 0 = n })) (made_again 4 size.0 fits.0)
 call_own (HandBack span) after fits =
     let records = made_again 4 span.metadata.0 fits.0 in
     let offsets = made_again 4 span.offset fits.1.0 in
-    λ i. some (HandBack record { offset = offsets i; metadata = record { 0 = records i } })
+    λ i. Some (HandBack record { offset = offsets i; metadata = record { 0 = records i } })
 call_own (SetUp size count) after fits =
     let sizes = made_again 4 size.0 fits.0 in
     let counts = made_again 4 count fits.1.0 in
-    λ i. some (SetUp record { 0 = sizes i } (counts i))
+    λ i. Some (SetUp record { 0 = sizes i } (counts i))
 call_own Reset after fits = refl
 
 -- of its length: two bytes more than what follows them, at least two of which are the kind

@@ -10,8 +10,8 @@ use Rattle.answers.specs.Refusals.{number_of}
 use Rattle.answers.proofs.Numbers.{number_means}
 use Rattle.journal.specs.declared.entry.Broken.{Broken}
 use Rattle.journal.specs.declared.entry.Broken.TheVariants.{Cut, UnknownKind, WrongLength}
-use Rattle.journal.specs.declared.entry.Wrote.{Wrote}
-use Rattle.journal.specs.declared.entry.Wrote.TheVariants.{Before, NoRoom}
+use Rattle.journal.specs.Refusals.{Wrote, Before, NoRoom}
+use Rattle.std.specs.Prelude.{Ok, Err}
 use Rattle.journal.specs.Refusals.{broken_number, wrote_number, JournalNumbers}
 
 -- why, by the number
@@ -28,12 +28,12 @@ none_shared : (why other : Broken) → broken_number why ≡ broken_number other
 none_shared why other e = sym (back why) ∙ (ap numbered e ∙ back other)
 
 sixteen_means : (outcome : Wrote) → (wrote_number outcome ≡ 16) ↔ (outcome ≡ NoRoom)
-sixteen_means (Before next) = (λ e. absurd (omega (arith, e)), λ e. ap wrote_number e)
-sixteen_means NoRoom = (λ e. refl, λ e. refl)
+sixteen_means (Ok next) = (λ e. absurd (omega (arith, e)), λ e. ap wrote_number e)
+sixteen_means (Err full) = (λ e. refl, λ e. refl)
 
 zero_means : (outcome : Wrote) → (wrote_number outcome ≡ 0) ↔ ((next : ℕ) × (outcome ≡ Before next))
-zero_means (Before next) = (λ e. (next, refl), λ p. refl)
-zero_means NoRoom = (λ e. absurd (omega (arith, e)), λ p. ap wrote_number p.1)
+zero_means (Ok next) = (λ e. (next, refl), λ p. refl)
+zero_means (Err full) = (λ e. absurd (omega (arith, e)), λ p. ap wrote_number p.1)
 
 reader's : (why : Broken) → (13 ≤ broken_number why) × (broken_number why ≤ 15)
 reader's Cut = (omega arith, omega arith)
@@ -41,8 +41,8 @@ reader's UnknownKind = (omega arith, omega arith)
 reader's WrongLength = (omega arith, omega arith)
 
 writer's : (why : Broken) (outcome : Wrote) → wrote_number outcome ≢ broken_number why
-writer's why (Before next) e = omega (arith, e, (reader's why).0)
-writer's why NoRoom e = omega (arith, e, (reader's why).1)
+writer's why (Ok next) e = omega (arith, e, (reader's why).0)
+writer's why (Err full) e = omega (arith, e, (reader's why).1)
 
 no_store's : (refusal : Refusal) → (number_of refusal ≢ wrote_number NoRoom) × ((why : Broken) → number_of refusal ≢ broken_number why)
 no_store's refusal =

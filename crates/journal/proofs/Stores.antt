@@ -1,14 +1,10 @@
 -- Stores in a row are one. Assumes nothing.
-use Prim.Native.Nat.{ℕ, suc, ◌+◌, ◌-◌, ◌≤◌}
+use Prim.Native.Nat.{ℕ, suc, ◌+◌, ◌≤◌}
 use native.Mathlib.Nat.{add-zero, add-suc, suc-add}
-use native.Mathlib.Omega.{arith}
 use mathlib.Core.List.{List, [], ◌∷◌, ◌++◌, append_assoc}
 use mathlib.Core.Path.{◌≡◌, sym, ap, ◌∙◌}
 use lib.ListN.{length, take, drop}
-use lib.Dec.{leb}
 use lib.Seq.{sets, sets-eq}
-use borrow.Author.Tests.{le-leb, lt-leb}
-use Rattle.basics.proofs.Decided.{below, beyond, below?}
 
 pub stored_on : (a b l : List ℕ) (i : ℕ) → sets (sets l i a) (i + length a) b ≡ sets l i (a ++ b)
 stored_on [] b l i = ap (λ (n : ℕ). sets l n b) (add-zero i)
@@ -27,10 +23,3 @@ stored vs l i h = sets-eq vs l i h ∙ append_assoc (take i l) vs (drop (i + len
 -- two stores, one behind the other
 pub then_stored : (a b l u v : List ℕ) (i k : ℕ) → length a ≡ k → u ≡ sets l i a → v ≡ sets u (i + k) b → v ≡ sets l i (a ++ b)
 then_stored a b l u v i k e first second = second ∙ ap (λ (x : List ℕ). sets x (i + k) b) first ∙ stored_after a b l i k e
-
--- room, tested without a sum
-pub room_tested : (n at wanted : ℕ) → wanted ≤ n → leb at (n - wanted) ≡ leb (at + wanted) n
-room_tested n at wanted h = elim (below? n (at + wanted)) [
-  | below less e ↦ lt-leb at (n - wanted) (omega arith) ∙ sym (lt-leb (at + wanted) n less)
-  | beyond most e ↦ le-leb at (n - wanted) (omega arith) ∙ sym (le-leb (at + wanted) n most)
-]

@@ -3,7 +3,7 @@ use Prim.Native.Nat.{ℕ, zero, suc, ◌+◌, ◌-◌, ◌*◌, ◌^◌, ◌≤�
 use native.Mathlib.Omega.{arith}
 use mathlib.Core.Path.{◌≡◌, sym, ap, subst, ◌∙◌}
 use mathlib.Core.Bool.{Bool, cond}
-use mathlib.Core.Option.{Option, none, some}
+use Rattle.std.specs.Prelude.{Option, None, Some}
 use mathlib.Core.List.{List, [], ◌∷◌, ◌++◌}
 use lib.ListN.{length, take, drop, length-drop, length-take}
 use lib.Seq.{take-add, drop-drop, length-take-le}
@@ -13,10 +13,10 @@ use Rattle.calls.specs.declared.Call.{Call}
 use Rattle.calls.specs.declared.Call.TheVariants.{Take, HandBack, SetUp, Reset}
 use Rattle.calls.specs.Values.{Fits}
 use Rattle.journal.specs.declared.entry.Broken.TheVariants.{WrongLength}
-use Rattle.journal.specs.declared.entry.Entry.TheVariants.{Read, Refused}
+use Rattle.journal.specs.declared.entry.Record.{Record}
 use Rattle.journal.specs.Bytes.{in_bytes, number, AllBytes}
 use Rattle.journal.specs.Writing.{in_fields, body_of, record_of}
-use Rattle.journal.specs.Reading.{length_in, kind_in, field_in, call_of, judged, read_here, read_at}
+use Rattle.journal.specs.Reading.{Read, Refused, length_in, kind_in, field_in, call_of, judged, read_here, read_at}
 use Rattle.journal.proofs.Numbers.{from_number}
 use Rattle.journal.proofs.ReadBack.{own_lengths}
 use Rattle.journal.proofs.Places.{here_end, here_short, here_cut, here_low, here_whole}
@@ -48,21 +48,26 @@ pub record ReadMeans (here : List ℕ) (at : ℕ) (c : Call) (next : ℕ) : Type
   pub four : 4 ≤ length here
   pub whole : 2 + length_in here ≤ length here
   pub high : 2 ≤ length_in here
-  pub found : call_of (kind_in here) here ≡ some c
+  pub found : call_of (kind_in here) here ≡ Some c
   pub own : length_in here ≡ length (body_of c)
   pub next_is : next ≡ at + (2 + length_in here)
 
+-- what is read is one call, and one place behind it
+pub same_read : (c d : Call) (next other : ℕ) → Read c next ≡ Read d other → (c ≡ d) × (next ≡ other)
+same_read c d next other e =
+    let both : ◌≡◌ {A = Record} record { call = c; next = next } record { call = d; next = other } = cc in
+    (ap (λ (found : Record). found.call) both, ap (λ (found : Record). found.next) both)
+
 -- a call is found, and it has the length of its kind
 judged_means : (named at : ℕ) (found : Option Call) (c : Call) (next : ℕ) → judged named at found ≡ Read c next
-    → (found ≡ some c) × (named ≡ length (body_of c)) × (next ≡ at + (2 + named))
+    → (found ≡ Some c) × (named ≡ length (body_of c)) × (next ≡ at + (2 + named))
 unfolding judged
-judged_means named at none c next e = clash (cc)
-judged_means named at (some d) c next e = elim (same? named (length (body_of d))) [
+judged_means named at None c next e = clash (cc)
+judged_means named at (Some d) c next e = elim (same? named (length (body_of d))) [
   | same p t ↦
       let read : Read d (at + (2 + named)) ≡ Read c next = sym (ap (λ (b : Bool). cond b (Read d (at + (2 + named))) (Refused WrongLength)) t) ∙ e in
-      let calls : d ≡ c = cc in
-      let places : at + (2 + named) ≡ next = cc in
-      (ap some calls, p ∙ ap (λ (x : Call). length (body_of x)) calls, sym places)
+      let same = same_read d c (at + (2 + named)) next read in
+      (ap Some same.0, p ∙ ap (λ (x : Call). length (body_of x)) same.0, sym same.1)
   | differ p t ↦
       let refused : Refused WrongLength ≡ Read c next = sym (ap (λ (b : Bool). cond b (Read d (at + (2 + named))) (Refused WrongLength)) t) ∙ e in
       clash (cc)
@@ -129,25 +134,25 @@ data FoundAs (kind : ℕ) (here : List ℕ) : Call → Type 0 where
   as_set_up : kind ≡ 3 → FoundAs kind here (SetUp record { 0 = field_in 0 here } (field_in 1 here))
   as_reset : kind ≡ 4 → FoundAs kind here Reset
 
-found_as : (kind : ℕ) (here : List ℕ) (c : Call) → call_of kind here ≡ some c → FoundAs kind here c
+found_as : (kind : ℕ) (here : List ℕ) (c : Call) → call_of kind here ≡ Some c → FoundAs kind here c
 unfolding call_of
 found_as kind here c e = elim (same? kind 1) [
   | same p t ↦
-      let is : some (Take record { 0 = field_in 0 here }) ≡ some c = rw t at e in
+      let is : Some (Take record { 0 = field_in 0 here }) ≡ Some c = rw t at e in
       subst (FoundAs kind here) (cc) (as_take p)
   | differ p t ↦ elim (same? kind 2) [
     | same q u ↦
-        let is : some (HandBack record { offset = field_in 1 here; metadata = record { 0 = field_in 0 here } }) ≡ some c = rw (t, u) at e in
+        let is : Some (HandBack record { offset = field_in 1 here; metadata = record { 0 = field_in 0 here } }) ≡ Some c = rw (t, u) at e in
         subst (FoundAs kind here) (cc) (as_hand_back q)
     | differ q u ↦ elim (same? kind 3) [
       | same r v ↦
-          let is : some (SetUp record { 0 = field_in 0 here } (field_in 1 here)) ≡ some c = rw (t, u, v) at e in
+          let is : Some (SetUp record { 0 = field_in 0 here } (field_in 1 here)) ≡ Some c = rw (t, u, v) at e in
           subst (FoundAs kind here) (cc) (as_set_up r)
       | differ r v ↦ elim (same? kind 4) [
         | same x w ↦
-            let is : some Reset ≡ some c = rw (t, u, v, w) at e in
+            let is : Some Reset ≡ Some c = rw (t, u, v, w) at e in
             subst (FoundAs kind here) (cc) (as_reset x)
-        | differ x w ↦ let is : ◌≡◌ {A = Option Call} none (some c) = rw (t, u, v, w) at e in clash (cc)
+        | differ x w ↦ let is : ◌≡◌ {A = Option Call} None (Some c) = rw (t, u, v, w) at e in clash (cc)
       ]
     ]
   ]

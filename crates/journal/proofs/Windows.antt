@@ -3,7 +3,7 @@ use Prim.Native.Nat.{ℕ, zero, suc, ◌+◌, ◌*◌, ◌≤◌, ◌<◌}
 use native.Mathlib.Omega.{arith}
 use mathlib.Core.Path.{◌≡◌, refl, sym, ap, ◌∙◌}
 use mathlib.Core.Bool.{Bool, true, false, cond}
-use mathlib.Core.Option.{Option, none, some}
+use Rattle.std.specs.Prelude.{Option, None, Some}
 use mathlib.Core.Logic.{◌≢◌}
 use mathlib.Core.List.{List, [], ◌∷◌, ◌++◌}
 use lib.Dec.{eqb, ltb}
@@ -13,11 +13,9 @@ use Rattle.basics.proofs.Clash.{clash}
 use Rattle.basics.proofs.Decided.{below, beyond, below?}
 use Rattle.calls.specs.declared.Call.{Call}
 use Rattle.journal.specs.declared.entry.Broken.TheVariants.{Cut, UnknownKind}
-use Rattle.journal.specs.declared.entry.Entry.{Entry}
-use Rattle.journal.specs.declared.entry.Entry.TheVariants.{Read, Refused}
 use Rattle.journal.specs.Bytes.{number, AllBytes}
 use Rattle.journal.specs.Writing.{body_of}
-use Rattle.journal.specs.Reading.{length_in, kind_in, field_in, call_of, judged, read_here, read_at}
+use Rattle.journal.specs.Reading.{Entry, Read, Refused, length_in, kind_in, field_in, call_of, judged, read_here, read_at}
 use Rattle.journal.specs.Claims.{window, moved_on}
 use Rattle.journal.proofs.Places.{here_cut, here_low, here_whole}
 use Rattle.journal.proofs.WasWritten.{all_left, all_taken, number_below}
@@ -111,8 +109,8 @@ moved_choice k false a b c d e f = f
 
 judged_moved : (k named at : ℕ) (found : Option Call) → judged named (k + at) found ≡ moved_on k (judged named at found)
 unfolding judged
-judged_moved k named at none = refl
-judged_moved k named at (some c) =
+judged_moved k named at None = refl
+judged_moved k named at (Some c) =
     let place : k + at + (2 + named) ≡ k + (at + (2 + named)) = omega arith in
     moved_choice k (eqb named (length (body_of c))) _ _ _ _ (ap (Read c) place) refl
 

@@ -1,15 +1,13 @@
 -- What is claimed of the format: one record, which proofs/Claims.antt makes. Assumes nothing.
-use Rattle.std.specs.Prelude.{◌≡◌, ◌≢◌, List, [], ◌∷◌, ◌++◌, ℕ, ◌+◌, ◌^◌, ◌≤◌, ◌<◌, length, take, drop, get_or}
+use Rattle.std.specs.Prelude.{◌≡◌, ◌≢◌, List, [], ◌∷◌, ◌++◌, ℕ, ◌+◌, ◌^◌, ◌≤◌, ◌<◌, length, take, drop, get_or, Some, None, Ok, Err}
 use Rattle.calls.specs.declared.Call.{Call}
 use Rattle.calls.specs.declared.Call.TheVariants.{Take, HandBack, SetUp, Reset}
 use Rattle.calls.specs.Values.{Fits}
 use Rattle.journal.specs.declared.entry.Broken.TheVariants.{Cut, UnknownKind, WrongLength}
-use Rattle.journal.specs.declared.entry.Wrote.{Wrote}
-use Rattle.journal.specs.declared.entry.Entry.{Entry}
-use Rattle.journal.specs.declared.entry.Entry.TheVariants.{Read, End, Refused}
 use Rattle.journal.specs.Bytes.{AllBytes}
+use Rattle.journal.specs.Refusals.{Wrote}
 use Rattle.journal.specs.Writing.{kind_of, record_of, journal_of, Written}
-use Rattle.journal.specs.Reading.{length_in, kind_in, read_at, Ending, ended, Holds}
+use Rattle.journal.specs.Reading.{length_in, kind_in, Entry, Read, End, Refused, read_at, Ending, ended, Holds}
 
 -- each call's fields are 32-bit numbers
 abbrev pub AllCallsFit : List Call → Type 0
@@ -37,9 +35,9 @@ Whole bytes at = (at + 4 ≤ length bytes) × (at + (2 + length_in (drop at byte
 
 -- what stands at a place, told for a place that lies so much further on
 abbrev pub moved_on : ℕ → Entry → Entry
-moved_on k (Read c next) = Read c (k + next)
-moved_on k End = End
-moved_on k (Refused why) = Refused why
+moved_on k (Ok (Some found)) = Read found.call (k + found.next)
+moved_on k (Ok None) = End
+moved_on k (Err why) = Refused why
 
 -- "tried in that order": bytes with what stands at their beginning
 pub record OrderRows : Type 0 where

@@ -1,14 +1,25 @@
 -- What stands at a place of a journal, and the calls that it holds. Assumes nothing.
-use Rattle.std.specs.Prelude.{◌≡◌, cond, List, [], ◌∷◌, ℕ, ◌+◌, ◌*◌, eqb, ltb, length, take, drop}
-use Rattle.std.proofs.Math.Option.{Option, none, some}
+use Rattle.std.specs.Prelude.{◌≡◌, cond, List, [], ◌∷◌, ℕ, ◌+◌, ◌*◌, eqb, ltb, length, take, drop, Option, Some, None, Result, Ok, Err}
 use Rattle.calls.specs.declared.Call.{Call}
 use Rattle.calls.specs.declared.Call.TheVariants.{Take, HandBack, SetUp, Reset}
 use Rattle.journal.specs.declared.entry.Broken.{Broken}
 use Rattle.journal.specs.declared.entry.Broken.TheVariants.{Cut, UnknownKind, WrongLength}
-use Rattle.journal.specs.declared.entry.Entry.{Entry}
-use Rattle.journal.specs.declared.entry.Entry.TheVariants.{Read, End, Refused}
+use Rattle.journal.specs.declared.entry.Record.{Record}
 use Rattle.journal.specs.Bytes.{number}
 use Rattle.journal.specs.Writing.{body_of}
+
+-- what stands at a place: a call, and the place of the next record; no byte; or a record that cannot be read
+abbrev pub Entry : Type 0
+Entry = Result (Option Record) Broken
+
+abbrev pub Read : Call → (next : ℕ) → Entry
+Read c next = Ok (Some record { call = c; next = next })
+
+abbrev pub End : Entry
+End = Ok None
+
+abbrev pub Refused : Broken → Entry
+Refused why = Err why
 
 -- ---- of the bytes that stand from a place on: the length, the kind, and the i-th 32-bit field
 unfoldable pub length_in : List ℕ → ℕ
@@ -27,16 +38,16 @@ field_in i here = number (take 4 (drop (4 + 4 * i) here))
 unfoldable pub call_of : (kind : ℕ) → List ℕ → Option Call
 unfolding field_in
 call_of kind here =
-    cond (eqb kind 1) (some (Take record { 0 = field_in 0 here }))
-    (cond (eqb kind 2) (some (HandBack record { offset = field_in 1 here; metadata = record { 0 = field_in 0 here } }))
-    (cond (eqb kind 3) (some (SetUp record { 0 = field_in 0 here } (field_in 1 here)))
-    (cond (eqb kind 4) (some Reset) none)))
+    cond (eqb kind 1) (Some (Take record { 0 = field_in 0 here }))
+    (cond (eqb kind 2) (Some (HandBack record { offset = field_in 1 here; metadata = record { 0 = field_in 0 here } }))
+    (cond (eqb kind 3) (Some (SetUp record { 0 = field_in 0 here } (field_in 1 here)))
+    (cond (eqb kind 4) (Some Reset) None)))
 
 -- "an unknown kind 14, a wrong length for a known kind 15": the length must be that of the call's own record
 unfoldable pub judged : (named at : ℕ) → Option Call → Entry
 unfolding body_of
-judged named at none = Refused UnknownKind
-judged named at (some c) = cond (eqb named (length (body_of c))) (Read c (at + (2 + named))) (Refused WrongLength)
+judged named at None = Refused UnknownKind
+judged named at (Some c) = cond (eqb named (length (body_of c))) (Read c (at + (2 + named))) (Refused WrongLength)
 
 -- "A record is cut when fewer bytes stand than its length names, or fewer than four; no byte left is the end. A length below 2 counts as wrong
 -- length and is tested before the kind."

@@ -1,11 +1,10 @@
 -- Document 02's numbers for what a journal can be refused for. Assumes nothing.
-use Rattle.std.specs.Prelude.{◌≡◌, ◌↔◌, ◌≢◌, ℕ, ◌≤◌}
+use Rattle.std.specs.Prelude.{◌≡◌, ◌↔◌, ◌≢◌, ℕ, ◌≤◌, Result, Ok, Err}
 use Rattle.answers.specs.declared.Refusal.{Refusal}
 use Rattle.answers.specs.Refusals.{number_of}
 use Rattle.journal.specs.declared.entry.Broken.{Broken}
 use Rattle.journal.specs.declared.entry.Broken.TheVariants.{Cut, UnknownKind, WrongLength}
-use Rattle.journal.specs.declared.entry.Wrote.{Wrote}
-use Rattle.journal.specs.declared.entry.Wrote.TheVariants.{Before, NoRoom}
+use Rattle.journal.specs.declared.entry.NoRoom as refused
 
 -- "A cut record is new refusal 13, an unknown kind 14, a wrong length for a known kind 15"
 abbrev pub broken_number : Broken → ℕ
@@ -13,10 +12,20 @@ broken_number Cut = 13
 broken_number UnknownKind = 14
 broken_number WrongLength = 15
 
+-- what comes of writing a record: the place behind it, or too little room
+abbrev pub Wrote : Type 0
+Wrote = Result ℕ refused.NoRoom
+
+abbrev pub Before : (next : ℕ) → Wrote
+Before next = Ok next
+
+abbrev pub NoRoom : Wrote
+NoRoom = Err record {}
+
 -- "too little room to write a record is 16"
 abbrev pub wrote_number : Wrote → ℕ
-wrote_number (Before next) = 0
-wrote_number NoRoom = 16
+wrote_number (Ok next) = 0
+wrote_number (Err full) = 16
 
 -- told from the other side, so that a number says what it was refused for; proofs/RefusalNumbers.antt makes it
 pub record JournalNumbers : Type 0 where

@@ -3,8 +3,7 @@ use Rattle.std.specs.Prelude.{◌≡◌, cond, List, [], ◌∷◌, ◌++◌, �
 use Rattle.calls.specs.Values.{fields_of}
 use Rattle.calls.specs.declared.Call.{Call}
 use Rattle.calls.specs.declared.Call.TheVariants.{Take, HandBack, SetUp, Reset}
-use Rattle.journal.specs.declared.entry.Wrote.{Wrote}
-use Rattle.journal.specs.declared.entry.Wrote.TheVariants.{Before, NoRoom}
+use Rattle.journal.specs.Refusals.{Wrote, Before, NoRoom}
 use Rattle.journal.specs.Bytes.{in_bytes}
 
 -- "Kind 1 is take (size), 2 hand back (record), 3 setup (size, count), 4 reset (no field)." Request 3 amends it: "Journal kind 2 gains the offset

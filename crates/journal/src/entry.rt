@@ -29,32 +29,26 @@ impl Broken {
     }
 }
 
+// A call that was read, and the place of the next record.
 #[derive(Clone, Copy)]
-pub enum Entry {
-    // a call, and the place of the next record
-    Read(Call, usize),
-    // no byte is left
-    End,
-    Refused(Broken),
+pub struct Record {
+    pub call: Call,
+    pub next: usize,
 }
 
-#[derive(Clone, Copy)]
-pub enum Wrote {
-    // the place behind the record
-    Before(usize),
-    // 16: too little room, and nothing is written
-    NoRoom,
-}
+// What stands at a place: a record, or none where no byte is left.
+pub type Entry = Result<Option<Record>, Broken>;
 
-impl Wrote {
-    // Document 02's number; 0 where the record is written.
-    pub fn number(self) -> u32
-        ensures { result ≡ wrote_number self }
-    {
-        let outcome = self;
-        match outcome {
-            Wrote::Before(_) => 0,
-            Wrote::NoRoom => 16,
-        }
+// Too little room to write a record, and nothing is written.
+#[derive(Clone, Copy)]
+pub struct NoRoom;
+
+// Document 02's number for what came of writing a record; 0 where it is written.
+pub fn number(written: Result<usize, NoRoom>) -> u32
+    ensures { result ≡ wrote_number written }
+{
+    match written {
+        Ok(_) => 0,
+        Err(_) => 16,
     }
 }

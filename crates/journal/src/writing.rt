@@ -1,41 +1,35 @@
 // A record written into bytes that are lent.
-ghost use Rattle.std.specs.Prelude.{◌≡◌, ◌++◌, ◌+◌, ◌%◌, ◌≤◌, leb, length};
+ghost use Rattle.std.specs.Prelude.{◌≡◌, ◌++◌, ◌+◌, ◌≤◌, leb, length};
 ghost use Rattle.std.proofs.lemmas.List.Edits.{sets};
 ghost use Rattle.journal.specs.Bytes.{in_bytes};
 ghost use Rattle.journal.specs.Writing.{record_of, Written};
 
-use crate::entry::Wrote;
+use crate::entry::NoRoom;
 use calls::Call;
 
-// The low byte of a number.
-fn low(v: u32) -> u8
-    ensures { result ≡ v % 256 }
-{
-    (v % 256) as u8
-}
-
-fn put16(out: &mut [u8], at: usize, n: u32)
+// A function for each of two sizes: std's methods on them share no trait.
+fn put16(out: &mut [u8], at: usize, n: u16)
     requires { at + 2 ≤ length out.old }
     ensures { out.new ≡ sets out.old at (in_bytes 2 n) }
 {
-    out[at] = low(n);
-    out[at + 1] = low(n / 256);
+    let [low, high] = n.to_le_bytes();
+    out[at] = low;
+    out[at + 1] = high;
 }
 
-fn put32(out: &mut [u8], at: usize, v: u32)
+fn put32(out: &mut [u8], at: usize, n: u32)
     requires { at + 4 ≤ length out.old }
-    ensures { out.new ≡ sets out.old at (in_bytes 4 v) }
+    ensures { out.new ≡ sets out.old at (in_bytes 4 n) }
 {
-    let second = v / 256;
-    let third = second / 256;
-    out[at] = low(v);
-    out[at + 1] = low(second);
-    out[at + 2] = low(third);
-    out[at + 3] = low(third / 256);
+    let [first, second, third, fourth] = n.to_le_bytes();
+    out[at] = first;
+    out[at + 1] = second;
+    out[at + 2] = third;
+    out[at + 3] = fourth;
 }
 
 // The length of what follows, and the kind.
-fn put_front(out: &mut [u8], at: usize, len: u32, kind: u32)
+fn put_front(out: &mut [u8], at: usize, len: u16, kind: u16)
     requires { at + 4 ≤ length out.old }
     ensures { out.new ≡ sets out.old at (in_bytes 2 len ++ in_bytes 2 kind) }
 {
@@ -44,7 +38,7 @@ fn put_front(out: &mut [u8], at: usize, len: u32, kind: u32)
 }
 
 // A record with one field.
-fn put_one(out: &mut [u8], at: usize, kind: u32, field: u32)
+fn put_one(out: &mut [u8], at: usize, kind: u16, field: u32)
     requires { at + 8 ≤ length out.old }
     ensures { out.new ≡ sets out.old at ((in_bytes 2 6 ++ in_bytes 2 kind) ++ in_bytes 4 field) }
 {
@@ -53,7 +47,7 @@ fn put_one(out: &mut [u8], at: usize, kind: u32, field: u32)
 }
 
 // And with two.
-fn put_two(out: &mut [u8], at: usize, kind: u32, first: u32, second: u32)
+fn put_two(out: &mut [u8], at: usize, kind: u16, first: u32, second: u32)
     requires { at + 12 ≤ length out.old }
     ensures { out.new
         ≡ sets out.old at (((in_bytes 2 10 ++ in_bytes 2 kind) ++ in_bytes 4 first) ++ in_bytes 4 second) }
@@ -98,14 +92,14 @@ fn has_room(n: usize, at: usize, wanted: usize) -> bool
     at <= n - wanted
 }
 
-// The call's record at a place, or nothing where it has too little room.
-pub fn write(call: Call, out: &mut [u8], at: usize) -> Wrote
+// The call's record at a place, or nothing where it has too little room; the place behind it.
+pub fn write(call: Call, out: &mut [u8], at: usize) -> Result<usize, NoRoom>
     ensures { Written call out.old at result out.new }
 {
     let wanted = bytes_of(call);
     if !has_room(out.len(), at, wanted) {
-        return Wrote::NoRoom;
+        return Err(NoRoom);
     }
     put(call, out, at);
-    Wrote::Before(at + wanted)
+    Ok(at + wanted)
 }

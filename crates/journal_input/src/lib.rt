@@ -20,7 +20,7 @@ pub struct Window {
     pub at: usize,
     // behind the last byte that was read
     pub end: usize,
-    // the input has not ended
+    // the input has not ended; where it has, the two places stand all the same, so no option holds them
     pub more: bool,
 }
 
@@ -46,36 +46,22 @@ impl Window {
 
     // The same, with the next record at another place.
     pub fn moved(self, at: usize) -> Window {
-        Window {
-            at: at,
-            end: self.end,
-            more: self.more,
-        }
+        Window { at, ..self }
     }
 
     // As many bytes have been read, or all, as a record can have.
     fn is_enough(self) -> bool {
-        if !self.more {
-            return true;
-        }
-        if self.end < self.at {
-            return false;
-        }
-        LONGEST <= self.end - self.at
+        !self.more || self.end >= self.at && self.end - self.at >= LONGEST
     }
 }
 
 // The bytes from one place to another, at the front of the buffer.
+#[tactic(auto, unfolding(crate::specs::Slid::slid))]
 fn slide(buffer: &mut [u8], from: usize, to: usize)
     requires { (from ≤ to) × (to ≤ length buffer.old) }
     ensures { buffer.new ≡ slid from to buffer.old }
 {
-    let n = to - from;
-    let mut i: usize = 0;
-    while i < n {
-        buffer[i] = buffer[from + i];
-        i += 1;
-    }
+    buffer.copy_within(from..to, 0);
 }
 
 // The window with enough bytes in it to read the next record; its end is no further than the buffer's. The buffer is best `BUFFER` long, and has to be

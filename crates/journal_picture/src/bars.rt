@@ -1,150 +1,27 @@
-// The bars of live regions. Of each record there is kept where its bar begins, which is 0 where it has none, and the offset and length of its region;
-// the bar is drawn when the region is live no more, or the journal ends.
+// The bars of live regions. A bar is drawn when its region is live no more, or the journal ends.
 ghost use Rattle.std.specs.Prelude.{◌<◌, ◌≤◌};
 
 use crate::frame;
+use journal_lines::Lines;
 use pictures::svg;
-use pictures::svg::Area;
-use records::nodes::{DATA_SIZE, USED};
+use pictures::svg::{Area, Hundredths, Pixels};
+use records::nodes;
+use records::nodes::Field;
 
 const RECORDS: usize = 1024;
 
-// Word k of a record; 0 past the end.
-fn word(nodes: &[u32; 8192], record: usize, k: usize) -> u32 {
-    if record < RECORDS {
-        return nodes[8 * record + k % 8];
-    }
-    0
-}
-
-// A region that was granted: its bar begins at x.
-pub fn begin(bars: &mut [u32; 3072], nodes: &[u32; 8192], record: u32, offset: u32, x: u32) {
-    let r = record as usize;
-    if r < RECORDS {
-        bars[r] = x;
-        bars[RECORDS + r] = offset;
-        bars[2 * RECORDS + r] = word(nodes, r, DATA_SIZE);
-    }
-}
-
-fn wide(n: u32) -> u64
-    ensures { result ≤ 4294967295 }
-{
-    n as u64
-}
-
-// Where an offset lies, from the top of the store down.
-fn down(offset: u64, size: u32) -> u32
-    ensures { result ≤ 48000 }
-{
-    let whole = wide(size);
-    if whole <= offset {
-        return 48000;
-    }
-    let place = offset * 48000 / whole;
-    if 48000 < place {
-        return 48000;
-    }
-    place as u32
-}
-
-// The place of a bar that begins so far down: what begins at the end of the store is a line above it.
-fn place(top: u32) -> u32 {
-    if 47800 < top {
-        return frame::TOP + 47800;
-    }
-    frame::TOP + top
-}
-
-// From one place to another; two pixels at least, so that a region of length 0 is seen too, and where there is room a gap below, by which two bars of
-// one colour are told apart.
-fn height(top: u32, bottom: u32) -> u32 {
-    let whole = svg::minus(bottom, top);
-    if whole < 200 {
-        return 200;
-    }
-    if 300 < whole {
-        return whole - 60;
-    }
-    whole
-}
-
-// A bar's place and extent, from its first column to the one behind its last.
-fn area(from: u32, to: u32, offset: u32, length: u32, size: u32) -> Area {
-    let start = wide(offset);
-    let top = down(start, size);
-    let bottom = down(start + wide(length), size);
-    Area {
-        x: from,
-        y: place(top),
-        width: svg::minus(to, from),
-        height: height(top, bottom),
-    }
-}
-
-// The record's number in its bar, and the region's length behind it, as far as there is room.
-fn label(waiting: usize, record: u32, length: u32, area: Area, out: &mut [u8; 65536]) -> usize {
-    if area.height < 1200 {
-        return waiting;
-    }
-    if area.width < 22 {
-        return waiting;
-    }
-    let opened = svg::open_text(
-        waiting,
-        b"label",
-        svg::plus(area.x, 3),
-        svg::plus(area.y, 1050),
-        out,
-    );
-    let numbered = journal_lines::number(opened, record as u64, out);
-    if area.width < 72 {
-        return svg::close_text(numbered, out);
-    }
-    let parted = journal_lines::put(numbered, b": ", out);
-    let told = journal_lines::number(parted, length as u64, out);
-    svg::close_text(told, out)
-}
-
-fn draw(
-    waiting: usize,
-    bars: &[u32; 3072],
-    record: usize,
+// Where a region's bar begins, and the region's offset and length.
+#[derive(Clone, Copy)]
+struct Bar {
     x: u32,
-    size: u32,
-    out: &mut [u8; 65536],
-) -> usize
-    requires { «record» < 1024 }
-{
-    let length = bars[2 * RECORDS + record];
-    let bar = area(bars[record], x, bars[RECORDS + record], length, size);
-    let drawn = svg::coloured(waiting, (record % 12) as u32, bar, out);
-    label(drawn, record as u32, length, bar, out)
+    offset: u32,
+    length: u32,
 }
 
-// The record's bar ends, if it has one and its region is live no more: its word `used` says so, or the store has fewer records, none after a
-// setup that was refused.
-fn end_one(
-    waiting: usize,
-    bars: &mut [u32; 3072],
-    nodes: &[u32; 8192],
-    record: usize,
-    end: End,
-    out: &mut [u8; 65536],
-) -> usize
-    requires { «record» < 1024 }
-{
-    if bars[record] == 0 {
-        return waiting;
-    }
-    if record < (end.count as usize) {
-        if word(nodes, record, USED) != 0 {
-            return waiting;
-        }
-    }
-    let drawn = draw(waiting, bars, record, end.x, end.size, out);
-    bars[record] = 0;
-    drawn
+// The bar of each record's region, where it is live.
+#[derive(Drop)]
+pub struct Bars {
+    bars: [Option<Bar>; 1024],
 }
 
 // Where bars end that end now, in a store of which size, and how many records the store has after the call.
@@ -155,16 +32,105 @@ pub struct End {
     pub count: u32,
 }
 
-pub fn end_all(
-    waiting: usize,
-    bars: &mut [u32; 3072],
-    nodes: &[u32; 8192],
-    end: End,
-    out: &mut [u8; 65536],
-) -> usize {
-    let mut many = waiting;
-    for record in 0..1024 {
-        many = end_one(many, bars, nodes, record, end, out);
+// Where an offset lies, from the top of the store down.
+fn down(offset: u64, size: u32) -> u32
+    ensures { result ≤ 48000 }
+{
+    let whole = u64::from(size);
+    if whole <= offset {
+        return 48000;
     }
-    many
+    (offset * 48000 / whole).min(48000) as u32
+}
+
+// The place of a bar that begins so far down: what begins at the end of the store is a line above it.
+fn place(top: u32) -> u32 {
+    frame::TOP + top.min(47800)
+}
+
+// From one place to another; two pixels at least, so that a region of length 0 is seen too, and where there is room a gap below, by which two bars of
+// one colour are told apart.
+fn height(top: u32, bottom: u32) -> u32 {
+    match bottom.saturating_sub(top) {
+        0..=199 => 200,
+        whole @ 200..=300 => whole,
+        whole => whole - 60,
+    }
+}
+
+// The record's number in its bar, and the region's length behind it, as far as there is room.
+fn label(record: u32, length: u32, area: Area<Pixels>, out: &mut Lines) {
+    if area.height.0 < 1200 || area.width.0 < 22 {
+        return;
+    }
+    svg::open_text(
+        b"label",
+        Pixels(area.x.0.saturating_add(3)),
+        Hundredths(area.y.0.saturating_add(1050)),
+        out,
+    );
+    out.number(u64::from(record));
+    if 72 <= area.width.0 {
+        out.put(b": ");
+        out.number(u64::from(length));
+    }
+    svg::close_text(out);
+}
+
+impl Bar {
+    // Its place and extent, from its first column to the one behind its last.
+    fn area(self, end: End) -> Area<Pixels> {
+        let start = u64::from(self.offset);
+        let top = down(start, end.size);
+        let bottom = down(start + u64::from(self.length), end.size);
+        Area {
+            x: Pixels(self.x),
+            y: Hundredths(place(top)),
+            width: Pixels(end.x.saturating_sub(self.x)),
+            height: Hundredths(height(top, bottom)),
+        }
+    }
+
+    fn draw(self, record: u32, end: End, out: &mut Lines) {
+        let area = self.area(end);
+        svg::coloured(record % 12, area, out);
+        label(record, self.length, area, out);
+    }
+}
+
+impl Bars {
+    pub fn new() -> Bars {
+        Bars { bars: [None; 1024] }
+    }
+
+    // A region that was granted: its bar begins at x.
+    pub fn begin(&mut self, nodes: &[u32; 8192], record: u32, offset: u32, x: u32) {
+        let r = record as usize;
+        if r < RECORDS {
+            let length = nodes::shown(nodes, record, Field::DataSize);
+            self.bars[r] = Some(Bar { x, offset, length });
+        }
+    }
+
+    // The record's bar ends, if it has one and its region is live no more: its word `used` says so, or the store has fewer records, none after a
+    // setup that was refused.
+    fn end_one(&mut self, nodes: &[u32; 8192], record: u32, end: End, out: &mut Lines)
+        requires { «record» < 1024 }
+    {
+        let r = record as usize;
+        let Some(bar) = self.bars[r] else {
+            return;
+        };
+        if record < end.count && nodes::shown(nodes, record, Field::Used) != 0 {
+            return;
+        }
+        bar.draw(record, end, out);
+        self.bars[r] = None;
+    }
+
+    pub fn end_all(&mut self, nodes: &[u32; 8192], end: End, out: &mut Lines) {
+        for record in 0..1024 {
+            self.end_one(nodes, record, end, out);
+        }
+    }
 }

@@ -7,24 +7,22 @@ mod columns;
 mod frame;
 mod widths;
 
+use journal_lines::Lines;
 use pictures::counting;
 use streams::STDIN_FILENO;
 
 // The bytes of a journal, the first of them if it has more than the picture can show.
-fn draw(bytes: &[u8], out: &mut [u8; 65536]) {
+fn draw(bytes: &[u8], out: &mut Lines) {
     let counted = counting::count(bytes);
-    let begun = frame::begin(counted, out);
-    let drawn = columns::draw_all(begun, counted.calls, bytes, out);
-    journal_lines::flush(journal_lines::put(drawn, b"</svg>\n", out), out);
-}
-
-fn read_and_draw(bytes: &mut [u8; 262144], out: &mut [u8; 65536]) {
-    let n = io::read_full(STDIN_FILENO, bytes);
-    draw(journal_lines::front(bytes, n), out);
+    frame::begin(counted, out);
+    columns::draw_all(counted.calls, bytes, out);
+    out.put(b"</svg>\n");
+    out.flush();
 }
 
 fn main() {
     let mut bytes = [0u8; 262144];
-    let mut out = io::large_buffer();
-    read_and_draw(&mut bytes, &mut out);
+    let mut out = Lines::new();
+    let n = io::read_full(STDIN_FILENO, &mut bytes);
+    draw(journal_lines::front(&bytes, n), &mut out);
 }

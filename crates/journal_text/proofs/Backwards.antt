@@ -3,7 +3,7 @@ use Prim.Native.Nat.{ℕ, suc, ◌+◌, ◌-◌, ◌/◌, ◌%◌, ◌≤◌, �
 use native.Mathlib.Omega.{arith}
 use mathlib.Core.Path.{◌≡◌, refl, sym, ap, ◌∙◌}
 use mathlib.Core.List.{List, [], ◌∷◌, ◌++◌, append_assoc, append-nil}
-use lib.ListN.{length, set, length-append}
+use lib.ListN.{set}
 use lib.Seq.{sets}
 use Rattle.journal_text.specs.Decimal.{decimal}
 use Rattle.journal_text.proofs.Decimals.{decimal_digit, decimal_more}
@@ -17,9 +17,6 @@ pub record Tail (n rest : ℕ) (before after : List ℕ) (place : ℕ) : Type 0 
 
 pub no_tail : (n : ℕ) (l : List ℕ) (place : ℕ) → Tail n n l l place
 no_tail n l place = record { behind = []; split = sym (append-nil (decimal n)); put = refl }
-
-pub no_longer : {n rest : ℕ} {before after : List ℕ} {place : ℕ} → Tail n rest before after place → length (decimal rest) ≤ length (decimal n)
-no_longer {n} {rest} t = omega (arith, ap length t.split, length-append (decimal rest) t.behind)
 
 -- one digit more, in front of them
 pub one_before : {n rest x place : ℕ} {l out : List ℕ}

@@ -4,10 +4,8 @@ use mathlib.Core.List.{List}
 use Prim.Native.Nat.{ℕ}
 use Rattle.calls.specs.Values.{Fits}
 use Rattle.calls.specs.declared.Call.{Call}
-use Rattle.journal_text.specs.declared.line.Line.{Line}
-use Rattle.journal_text.specs.declared.line.Line.TheVariants.{Holds}
 use Rattle.journal_text.specs.Texts.{text_of, Leads}
-use Rattle.journal_text.specs.Lines.{line_in}
+use Rattle.journal_text.specs.Lines.{Line, Holds, line_in}
 use Rattle.journal_text.specs.Facts.{TextFacts}
 use Rattle.journal_text.proofs.Decimals.{makes_up}
 use Rattle.journal_text.proofs.ReadBack.{reads_back}

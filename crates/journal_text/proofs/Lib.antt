@@ -1,5 +1,5 @@
 -- Decimals: a number's digits. Puts: texts put one behind the other; Backwards: a number put from its end. Scanning: what stands in front of a text;
--- Judging: what a line holds. ReadBack, OtherSide: what is claimed of these; Facts: all of it; Rows: a dozen lines.
+-- Judging: where its first word stands. ReadBack, OtherSide: what is claimed of these; Facts: all of it; Rows: a dozen lines.
 pub mod Decimals
 pub mod Puts
 pub mod Backwards

@@ -12,23 +12,19 @@ use Rattle.basics.proofs.Clash.{clash}
 use Rattle.basics.proofs.Decided.{below, beyond, below?}
 use Rattle.ledger.specs.Figures.{refusal_of}
 use Rattle.answers.proofs.Numbers.{number_means}
-use Rattle.calls.specs.Values.{Fits, says}
+use Rattle.calls.specs.Values.{Answer, Fits, says}
 use Rattle.calls.specs.declared.Call.{Call}
 use Rattle.calls.specs.declared.Call.TheVariants.{Take, HandBack, SetUp}
-use Rattle.calls.specs.declared.Answer.{Answer}
-use Rattle.calls.specs.declared.Answer.TheVariants as answer
+use Rattle.calls.specs.Values as answer
+use Rattle.std.specs.Prelude.{Some, None, Ok, Err}
 use Rattle.journal.specs.declared.entry.Broken.{Broken}
 use Rattle.journal.specs.Refusals.{broken_number}
 use Rattle.journal.proofs.RefusalNumbers.{journal_numbers}
 use Rattle.journal_text.specs.declared.line.Fault.{Fault}
-use Rattle.journal_text.specs.declared.line.Line.{Line}
-use Rattle.journal_text.specs.declared.line.Line.TheVariants.{Holds, Blank, Bad}
-use Rattle.journal_text.specs.declared.line.Value.{Value}
-use Rattle.journal_text.specs.declared.line.Value.TheVariants.{Is, Wrong}
 use Rattle.journal_text.specs.Decimal.{decimal, spaced}
 use Rattle.journal_text.specs.Texts.{take_word, back_word, set_up_word, reset_word, answer_text, broken_text, figures_of}
 use Rattle.journal_text.specs.Words.{is_digit, leading, only_blanks, trimmed, word_in, behind_word, same}
-use Rattle.journal_text.specs.Lines.{made_on, valued, number_of, ended, last_number, holds, holds_two, resets, call_in, line_in}
+use Rattle.journal_text.specs.Lines.{Value, Is, Wrong, Line, Holds, Blank, Bad, made_on, valued, number_of, ended, last_number, holds, holds_two, resets, call_in, line_in}
 use Rattle.journal_text.specs.Facts.{Digits, NoZeroInFront}
 use Rattle.journal_text.proofs.Scanning.{digit_range, each_such}
 use Rattle.journal_text.proofs.Decimals.{decimal_digit, decimal_more, of_tenths, length_digit, has_digits, made_append, made_grows, makes_up}
@@ -240,30 +236,30 @@ unfolding spaced
 not_none n ns e = omega (arith, ap length e)
 
 pub one_answer : (a b : Answer) → answer_text a ≡ answer_text b → a ≡ b
-one_answer answer.Done answer.Done e = refl
-one_answer answer.Done (answer.Granted span) e = absurd (not_none _ _ (sym (same_figures answer.Done (answer.Granted span) e)))
-one_answer answer.Done (answer.Refused why) e =
+one_answer (Ok None) (Ok None) e = refl
+one_answer (Ok None) (Ok (Some span)) e = absurd (not_none _ _ (sym (same_figures answer.Done (answer.Granted span) e)))
+one_answer (Ok None) (Err why) e =
     absurd (omega (arith, same_number answer.Done (answer.Refused why) e, (number_means.in_range why).0))
-one_answer (answer.Granted span) answer.Done e = absurd (not_none _ _ (same_figures (answer.Granted span) answer.Done e))
-one_answer (answer.Granted s) (answer.Granted t) e =
+one_answer (Ok (Some span)) (Ok None) e = absurd (not_none _ _ (same_figures (answer.Granted span) answer.Done e))
+one_answer (Ok (Some s)) (Ok (Some t)) e =
     let all = same_figures (answer.Granted s) (answer.Granted t) e in
     let offsets : s.offset ≡ t.offset = first_figure s.offset t.offset (s.metadata.0 ∷ []) (t.metadata.0 ∷ []) all in
     let rest = other_figures s.offset t.offset (s.metadata.0 ∷ []) (t.metadata.0 ∷ []) all in
     let records : s.metadata.0 ≡ t.metadata.0 = first_figure s.metadata.0 t.metadata.0 [] [] rest in
     ap answer.Granted (λ i. record { offset = offsets i; metadata = record { 0 = records i } })
-one_answer (answer.Granted span) (answer.Refused why) e = absurd (not_none _ _ (same_figures (answer.Granted span) (answer.Refused why) e))
-one_answer (answer.Refused why) answer.Done e =
+one_answer (Ok (Some span)) (Err why) e = absurd (not_none _ _ (same_figures (answer.Granted span) (answer.Refused why) e))
+one_answer (Err why) (Ok None) e =
     absurd (omega (arith, same_number (answer.Refused why) answer.Done e, (number_means.in_range why).0))
-one_answer (answer.Refused why) (answer.Granted span) e =
+one_answer (Err why) (Ok (Some span)) e =
     absurd (not_none _ _ (sym (same_figures (answer.Refused why) (answer.Granted span) e)))
-one_answer (answer.Refused why) (answer.Refused other) e =
+one_answer (Err why) (Err other) e =
     ap answer.Refused (number_means.none_shared why other (same_number (answer.Refused why) (answer.Refused other) e))
 
 -- ---- a last line, told by its number, which no answer has
 answer_number : (a : Answer) → refusal_of (says a) ≤ 8
-answer_number answer.Done = omega arith
-answer_number (answer.Granted span) = omega arith
-answer_number (answer.Refused why) = (number_means.in_range why).1
+answer_number (Ok None) = omega arith
+answer_number (Ok (Some span)) = omega arith
+answer_number (Err why) = (number_means.in_range why).1
 
 last_word : (why : Broken) → word_in (broken_text why) ≡ decimal (broken_number why)
 unfolding broken_text spaced

@@ -5,12 +5,12 @@ use native.Mathlib.Numerals.{add-one}
 use native.Mathlib.Omega.{arith}
 use mathlib.Core.Path.{◌≡◌, refl, sym, ap, subst, ◌∙◌}
 use mathlib.Core.List.{List, [], ◌∷◌, ◌++◌, append_assoc, append-nil}
-use lib.ListN.{length, take, drop, set, get_or, length-append, length-set}
-use lib.Seq.{sets, length-sets, sets-eq, set_comm, take-suc, length-take-le}
+use lib.ListN.{length, drop, set, length-append, length-set}
+use lib.Seq.{sets, length-sets, sets-eq, set_comm}
 use Rattle.journal_text.specs.Decimal.{decimal, spaced}
 use Rattle.answers.specs.declared.Refusal.{Refusal}
 use Rattle.answers.specs.Refusals.{number_of}
-use Rattle.calls.specs.declared.Answer.TheVariants.{Done, Refused}
+use Rattle.calls.specs.Values.{Done, Refused}
 use Rattle.journal_text.specs.Texts.{PutAt, Leads, answer_text}
 use Rattle.journal_text.proofs.Decimals.{decimal_digit}
 
@@ -69,19 +69,6 @@ set_before [] l i k x h = refl
 set_before (v ∷ vs) l i k x h =
     set_before vs (set l k v) i (suc k) x (omega arith)
     ∙ ap (λ (m : List ℕ). sets m (suc k) vs) (set_comm l k i v x (λ e. omega arith))
-
--- the next byte of a word
-pub put_next : (word l out : List ℕ) (i : ℕ)
-    → i < length word
-    → out ≡ sets l 0 (take i word)
-    → set out i (get_or word i 0) ≡ sets l 0 (take (i + 1) word)
-put_next word l out i h e =
-    let so_far : 0 + length (take i word) ≡ i = omega (arith, length-take-le i word (omega arith)) in
-    let x = get_or word i 0 in
-    ap (λ (m : List ℕ). set m i x) e
-    ∙ ap (λ (k : ℕ). set (sets l 0 (take i word)) k x) (sym so_far)
-    ∙ stored_on (take i word) (x ∷ []) l 0
-    ∙ ap (λ (t : List ℕ). sets l 0 t) (sym (take-suc word i 0 h) ∙ ap (λ (k : ℕ). take k word) (sym (add-one i)))
 
 -- ---- the line of an answer without figures
 pub done_text : 48 ∷ [] ≡ answer_text Done

@@ -1,5 +1,6 @@
 -- What is written is read: a word, a number, a call. Assumes nothing.
-use Prim.Native.Nat.{ℕ, suc, ◌+◌, ◌/◌, ◌%◌, ◌^◌, ◌≤◌, ◌<◌}
+use Prim.Native.Nat.{ℕ, ◌+◌, ◌/◌, ◌%◌, ◌^◌, ◌≤◌, ◌<◌}
+use native.Mathlib.Numerals.{one-add}
 use native.Mathlib.Omega.{arith}
 use mathlib.Core.Path.{◌≡◌, refl, sym, ap, ap₂, ◌∙◌}
 use mathlib.Core.Bool.{Bool, true, false}
@@ -10,32 +11,27 @@ use borrow.Author.Tests.{lt-ltb, le-ltb, le-leb, eq-eqb, ne_eqb, not-true}
 use Rattle.calls.specs.Values.{Fits}
 use Rattle.calls.specs.declared.Call.{Call}
 use Rattle.calls.specs.declared.Call.TheVariants.{Take, HandBack, SetUp, Reset}
-use Rattle.journal_text.specs.declared.line.Line.TheVariants.{Holds}
-use Rattle.journal_text.specs.declared.line.Value.{Value}
-use Rattle.journal_text.specs.declared.line.Value.TheVariants.{Is}
 use Rattle.journal_text.specs.Decimal.{decimal, spaced}
 use Rattle.journal_text.specs.Texts.{take_word, back_word, set_up_word, reset_word, text_of}
-use Rattle.journal_text.specs.Words.{is_blank, is_ink, is_digit, leading, only_blanks, trimmed, word_in, behind_word, same}
-use Rattle.journal_text.specs.Lines.{valued, number_of, ended, last_number, holds, holds_two, resets, call_in, line_in}
+use Rattle.journal_text.specs.Words.{is_blank, is_ink, is_digit, leading, only_blanks, trimmed, word_in, behind_word}
+use Rattle.journal_text.specs.Lines.{Value, Is, Holds, valued, number_of, ended, last_number, holds, holds_two, resets, call_in, line_in}
 use Rattle.journal_text.proofs.Scanning.{all_first}
 use Rattle.journal_text.proofs.Decimals.{decimal_digit, decimal_more, of_tenths, has_digits, makes_up}
 
 -- ---- bytes in front
 -- all of a text, and none of what stands behind it
 pub leading_append : (such : ℕ → Bool) (a b : List ℕ) → leading such a ≡ length a → leading such b ≡ 0 → leading such (a ++ b) ≡ length a
-unfolding leading
 leading_append such [] b all none = none
 leading_append such (x ∷ a) b all none =
     let here = all_first such x a (such x) refl all in
-    rw here.0 (ap suc (leading_append such a b here.1 none))
+    rw here.0 (omega (arith, leading_append such a b here.1 none))
 
 -- all of both
 all_append : (such : ℕ → Bool) (a b : List ℕ) → leading such a ≡ length a → leading such b ≡ length b → leading such (a ++ b) ≡ length (a ++ b)
-unfolding leading
 all_append such [] b all more = more
 all_append such (x ∷ a) b all more =
     let here = all_first such x a (such x) refl all in
-    rw here.0 (ap suc (all_append such a b here.1 more))
+    rw here.0 (omega (arith, all_append such a b here.1 more))
 
 -- ---- words
 -- a word's bytes are ink, and there is one at least
@@ -45,7 +41,7 @@ pub record Word (text : List ℕ) : Type 0 where
 
 -- what begins with one has no blank in front
 no_blank : (a b : List ℕ) → Word a → leading is_blank (a ++ b) ≡ 0
-unfolding leading is_ink
+unfolding is_ink
 no_blank [] b w = absurd (omega (arith, w.some))
 no_blank (x ∷ a) b w =
     let here : is_blank x ≡ false = not-true (is_blank x) (all_first is_ink x a (is_ink x) refl w.ink).0 in
@@ -72,8 +68,8 @@ module _ (a b : List ℕ) (w : Word a) (next : leading is_ink b ≡ 0) where
 
 -- a space in front makes no difference
 trimmed_space : (text : List ℕ) → trimmed (32 ∷ text) ≡ trimmed text
-unfolding trimmed leading is_blank
-trimmed_space text = refl
+unfolding trimmed is_blank
+trimmed_space text = simp one-add
 
 pub word_space : (text : List ℕ) → word_in (32 ∷ text) ≡ word_in text
 unfolding word_in
@@ -94,7 +90,6 @@ digit_ink k h = rw (ne_eqb (48 + k) 32 (λ e. omega arith), ne_eqb (48 + k) 9 (�
 
 -- what each digit is, all of a number's are
 all_digits : (such : ℕ → Bool) → ((k : ℕ) → k < 10 → such (48 + k) ≡ true) → (n : ℕ) → leading such (decimal n) ≡ length (decimal n)
-unfolding leading
 all_digits such each = of_tenths (λ n. leading such (decimal n) ≡ length (decimal n)) one more
   where
     one_digit : (k : ℕ) → k < 10 → leading such ((48 + k) ∷ []) ≡ 1
@@ -124,7 +119,7 @@ decimal_read n h =
 
 -- numbers behind spaces: the first, and the others
 pub spaced_stops : (ns : List ℕ) → leading is_ink (spaced ns) ≡ 0
-unfolding spaced leading is_ink is_blank
+unfolding spaced is_ink is_blank
 spaced_stops [] = refl
 spaced_stops (n ∷ ns) = refl
 
@@ -137,7 +132,7 @@ unfolding spaced
 spaced_behind n ns = behind_space (decimal n ++ spaced ns) ∙ word_behind (decimal n) (spaced ns) (decimal_word n) (spaced_stops ns)
 
 nothing_there : only_blanks (spaced []) ≡ true
-unfolding spaced only_blanks leading
+unfolding spaced only_blanks
 nothing_there = refl
 
 last_read : (n : ℕ) → n < 2 ^ 32 → last_number (spaced (n ∷ [])) ≡ Is n
@@ -170,23 +165,23 @@ word_judged x a b w next mark =
 
 -- the four words
 set_up_word_lem : Word set_up_word
-unfolding leading is_ink is_blank
+unfolding is_ink is_blank
 set_up_word_lem = record { some = omega arith; ink = refl }
 
 take_word_lem : Word take_word
-unfolding leading is_ink is_blank
+unfolding is_ink is_blank
 take_word_lem = record { some = omega arith; ink = refl }
 
 back_word_lem : Word back_word
-unfolding leading is_ink is_blank
+unfolding is_ink is_blank
 back_word_lem = record { some = omega arith; ink = refl }
 
 reset_word_lem : Word reset_word
-unfolding leading is_ink is_blank
+unfolding is_ink is_blank
 reset_word_lem = record { some = omega arith; ink = refl }
 
 pub reads_back : (c : Call) → Fits c → line_in (text_of c) ≡ Holds c
-unfolding text_of call_in same holds resets
+unfolding text_of call_in holds resets
 reads_back (Take size) fits =
     word_judged 116 (97 ∷ 107 ∷ 101 ∷ []) (spaced (size.0 ∷ [])) take_word_lem (spaced_stops _) (λ e. omega arith)
     ∙ ap (λ (v : Value). holds (λ n. Take record { 0 = n }) v) (last_read size.0 fits.0)

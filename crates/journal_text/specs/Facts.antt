@@ -1,14 +1,11 @@
 -- What the definitions beside this file give a reader to rely on. One record, which proofs/Facts.antt makes. Assumes nothing.
 use Rattle.std.specs.Prelude.{ℕ, ◌≤◌, ◌<◌, ◌≡◌, ◌≢◌, List, length, get_or}
-use Rattle.calls.specs.Values.{Fits}
+use Rattle.calls.specs.Values.{Answer, Fits}
 use Rattle.calls.specs.declared.Call.{Call}
-use Rattle.calls.specs.declared.Answer.{Answer}
 use Rattle.journal.specs.declared.entry.Broken.{Broken}
-use Rattle.journal_text.specs.declared.line.Line.{Line}
-use Rattle.journal_text.specs.declared.line.Line.TheVariants.{Holds}
 use Rattle.journal_text.specs.Decimal.{decimal}
 use Rattle.journal_text.specs.Texts.{text_of, answer_text, broken_text, Leads}
-use Rattle.journal_text.specs.Lines.{made_on, line_in}
+use Rattle.journal_text.specs.Lines.{Line, Holds, made_on, line_in}
 
 -- digits, 0 to 9, and one at least
 abbrev pub Digits : List ℕ → Type 0

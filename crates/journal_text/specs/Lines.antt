@@ -1,14 +1,34 @@
 -- What a line holds: the word of a call and exactly its numbers; nothing; or no call, and why. Assumes nothing.
-use Rattle.std.specs.Prelude.{ℕ, ◌+◌, ◌-◌, ◌*◌, ◌^◌, cond, List, [], ◌∷◌, eqb, ltb, length, get_or}
+use Rattle.std.specs.Prelude.{ℕ, ◌+◌, ◌-◌, ◌*◌, ◌^◌, cond, List, [], ◌∷◌, eqb, ltb, length, get_or, Option, Some, None, Result, Ok, Err}
 use Rattle.calls.specs.declared.Call.{Call}
 use Rattle.calls.specs.declared.Call.TheVariants.{Take, HandBack, SetUp, Reset}
+use Rattle.journal_text.specs.declared.line.Fault.{Fault}
 use Rattle.journal_text.specs.declared.line.Fault.TheVariants.{UnknownWord, MissingNumber, NotANumber, TooLarge, TooMuch}
-use Rattle.journal_text.specs.declared.line.Line.{Line}
-use Rattle.journal_text.specs.declared.line.Line.TheVariants.{Holds, Blank, Bad}
-use Rattle.journal_text.specs.declared.line.Value.{Value}
-use Rattle.journal_text.specs.declared.line.Value.TheVariants.{Is, Wrong}
 use Rattle.journal_text.specs.Texts.{take_word, back_word, set_up_word, reset_word}
 use Rattle.journal_text.specs.Words.{is_digit, leading, only_blanks, trimmed, word_in, behind_word, same}
+
+-- what a line holds: a call; nothing but blanks, or a comment; or no call, and why
+abbrev pub Line : Type 0
+Line = Result (Option Call) Fault
+
+abbrev pub Holds : Call → Line
+Holds c = Ok (Some c)
+
+abbrev pub Blank : Line
+Blank = Ok None
+
+abbrev pub Bad : Fault → Line
+Bad why = Err why
+
+-- a word that is wanted to be a number
+abbrev pub Value : Type 0
+Value = Result ℕ Fault
+
+abbrev pub Is : ℕ → Value
+Is n = Ok n
+
+abbrev pub Wrong : Fault → Value
+Wrong why = Err why
 
 -- the number that digits make: each of them makes what was there ten times as large, and adds itself
 unfoldable pub made_on : ℕ → List ℕ → ℕ
@@ -28,8 +48,8 @@ number_of word =
 
 -- a number with nothing behind it
 unfoldable pub ended : Value → (behind : List ℕ) → Value
-ended (Is n) behind = cond (only_blanks behind) (Is n) (Wrong TooMuch)
-ended (Wrong why) behind = Wrong why
+ended (Ok n) behind = cond (only_blanks behind) (Is n) (Wrong TooMuch)
+ended (Err why) behind = Wrong why
 
 unfoldable pub last_number : List ℕ → Value
 unfolding number_of ended
@@ -37,14 +57,14 @@ last_number text = ended (number_of (word_in text)) (behind_word text)
 
 -- the call with that number
 unfoldable pub holds : (ℕ → Call) → Value → Line
-holds call (Is n) = Holds (call n)
-holds call (Wrong why) = Bad why
+holds call (Ok n) = Holds (call n)
+holds call (Err why) = Bad why
 
 -- and with two of them: a setup's size, then its count; a span's record, then where it starts
 unfoldable pub holds_two : (ℕ → ℕ → Call) → Value → (behind : List ℕ) → Line
 unfolding holds last_number
-holds_two call (Is n) behind = holds (call n) (last_number behind)
-holds_two call (Wrong why) behind = Bad why
+holds_two call (Ok n) behind = holds (call n) (last_number behind)
+holds_two call (Err why) behind = Bad why
 
 -- a reset has no number
 unfoldable pub resets : (behind : List ℕ) → Line

@@ -2,8 +2,7 @@
 use Rattle.std.specs.Prelude.{◌≡◌, [], ◌∷◌}
 use Rattle.calls.specs.declared.Call.TheVariants.{Take, HandBack, SetUp}
 use Rattle.journal_text.specs.declared.line.Fault.TheVariants.{UnknownWord, MissingNumber, NotANumber, TooLarge, TooMuch}
-use Rattle.journal_text.specs.declared.line.Line.TheVariants.{Holds, Blank, Bad}
-use Rattle.journal_text.specs.Lines.{line_in}
+use Rattle.journal_text.specs.Lines.{Holds, Blank, Bad, line_in}
 
 pub record Rows : Type 0 where
   -- setup 100 6

@@ -1,12 +1,10 @@
 -- The line of a call, the line that a replay prints for an answer, and its last line where a record cannot be read; none has its newline. Assumes nothing.
-use Rattle.std.specs.Prelude.{ℕ, ◌+◌, ◌≤◌, ◌≡◌, List, [], ◌∷◌, ◌++◌, length, drop}
+use Rattle.std.specs.Prelude.{ℕ, ◌+◌, ◌≤◌, ◌≡◌, List, [], ◌∷◌, ◌++◌, length, drop, Some, None, Ok, Err}
 use Rattle.std.proofs.lemmas.List.Edits.{sets}
 use Rattle.ledger.specs.Figures.{refusal_of}
-use Rattle.calls.specs.Values.{fields_of, says}
+use Rattle.calls.specs.Values.{Answer, fields_of, says}
 use Rattle.calls.specs.declared.Call.{Call}
 use Rattle.calls.specs.declared.Call.TheVariants.{Take, HandBack, SetUp, Reset}
-use Rattle.calls.specs.declared.Answer.{Answer}
-use Rattle.calls.specs.declared.Answer.TheVariants.{Done, Granted, Refused}
 use Rattle.journal.specs.declared.entry.Broken.{Broken}
 use Rattle.journal.specs.Refusals.{broken_number}
 use Rattle.journal_text.specs.Decimal.{decimal, spaced}
@@ -36,9 +34,9 @@ text_of c = word_of c ++ spaced (fields_of c)
 
 -- "a granted take's offset and record"
 abbrev pub figures_of : Answer → List ℕ
-figures_of Done = []
-figures_of (Granted span) = span.offset ∷ span.metadata.0 ∷ []
-figures_of (Refused why) = []
+figures_of (Ok None) = []
+figures_of (Ok (Some span)) = span.offset ∷ span.metadata.0 ∷ []
+figures_of (Err why) = []
 
 -- "refusal number or 0, then a granted take's offset and record, in decimal, a space between"
 unfoldable pub answer_text : Answer → List ℕ

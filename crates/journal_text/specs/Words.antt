@@ -1,5 +1,7 @@
 -- How a line is taken apart: words, parted by one blank or several. Assumes nothing.
-use Rattle.std.specs.Prelude.{ℕ, suc, Bool, true, false, cond, not, List, [], ◌∷◌, eqb, leb, ltb, length, take, drop}
+use Rattle.std.specs.List.{prefix_len}
+use Rattle.std.specs.Str.{bytes_eq}
+use Rattle.std.specs.Prelude.{ℕ, Bool, true, false, cond, not, List, eqb, leb, ltb, length, take, drop}
 
 -- a blank is a space, a tab or a carriage return
 unfoldable pub is_blank : ℕ → Bool
@@ -15,9 +17,8 @@ unfoldable pub is_digit : ℕ → Bool
 is_digit b = cond (ltb b 48) false (leb b 57)
 
 -- how many bytes in front are such
-unfoldable pub leading : (ℕ → Bool) → List ℕ → ℕ
-leading such [] = 0
-leading such (b ∷ bs) = cond (such b) (suc (leading such bs)) 0
+abbrev pub leading : (ℕ → Bool) → List ℕ → ℕ
+leading such text = prefix_len such text
 
 -- nothing stands there
 unfoldable pub only_blanks : List ℕ → Bool
@@ -37,8 +38,5 @@ unfolding trimmed
 behind_word text = drop (leading is_ink (trimmed text)) (trimmed text)
 
 -- two texts are byte for byte the same
-unfoldable pub same : List ℕ → List ℕ → Bool
-same [] [] = true
-same [] (b ∷ bs) = false
-same (a ∷ rest) [] = false
-same (a ∷ rest) (b ∷ bs) = cond (eqb a b) (same rest bs) false
+abbrev pub same : List ℕ → List ℕ → Bool
+same a b = bytes_eq a b

@@ -16,17 +16,5 @@ pub enum Fault {
     TooMuch,
 }
 
-#[derive(Clone, Copy)]
-pub enum Line {
-    Holds(Call),
-    // nothing but blanks, or a comment
-    Blank,
-    Bad(Fault),
-}
-
-// A word that is wanted to be a number.
-#[derive(Clone, Copy)]
-pub enum Value {
-    Is(u32),
-    Wrong(Fault),
-}
+// A call; or none, where nothing but blanks stands there, or a comment.
+pub type Line = Result<Option<Call>, Fault>;

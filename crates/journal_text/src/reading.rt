@@ -1,117 +1,91 @@
 // A line of text, read.
 ghost use Rattle.std.specs.Prelude.{◌≡◌, true, ◌+◌, ◌-◌, ◌<◌, ◌≤◌, length, take, drop};
 ghost use Rattle.calls.specs.declared.Call.TheVariants as call;
-ghost use Rattle.journal_text.specs.Words.{is_blank, is_ink, is_digit, leading, only_blanks, word_in, behind_word, same};
+ghost use Rattle.journal_text.specs.Words.{is_blank, is_ink, is_digit, leading, only_blanks, word_in, behind_word};
 ghost use Rattle.journal_text.specs.Lines.{made_on, valued, number_of, last_number, holds, holds_two, resets, call_in, line_in};
 
-use crate::line::{Fault, Line, Value};
+use crate::line::{Fault, Line};
 use answers::{Allocation, Handle};
 use calls::Call;
 use small_float::Size;
 
+#[tactic(auto, unfolding(crate::specs::Words::is_blank))]
 fn is_blank(byte: u8) -> bool
     ensures { result ≡ is_blank byte }
 {
-    if byte == b' ' {
-        return true;
-    }
-    if byte == b'\t' {
-        return true;
-    }
-    byte == b'\r'
+    matches!(byte, b' ' | b'\t' | b'\r')
 }
 
+#[tactic(auto, unfolding(crate::specs::Words::is_digit))]
 fn is_digit(byte: u8) -> bool
     ensures { result ≡ is_digit byte }
 {
-    if byte < b'0' {
-        return false;
-    }
-    byte <= b'9'
+    byte.is_ascii_digit()
 }
 
 // How many blanks stand in front.
 fn blanks(text: &[u8]) -> usize
     ensures { (result ≡ leading is_blank text.now) × (result ≤ length text.now) }
 {
-    let mut i = 0;
-    while i < text.len() {
-        if !is_blank(text[i]) {
-            return i;
-        }
-        i += 1;
-    }
-    i
+    text.iter().take_while(|byte| is_blank(**byte)).count()
 }
 
 // How many bytes stand in front of the first blank.
+#[tactic(auto, unfolding(crate::specs::Words::is_ink))]
 fn inked(text: &[u8]) -> usize
     ensures { (result ≡ leading is_ink text.now) × (result ≤ length text.now) }
 {
-    let mut i = 0;
-    while i < text.len() {
-        if is_blank(text[i]) {
-            return i;
-        }
-        i += 1;
-    }
-    i
+    text.iter().take_while(|byte| !is_blank(**byte)).count()
 }
 
 // How many digits stand in front.
 fn digits(text: &[u8]) -> usize
     ensures { (result ≡ leading is_digit text.now) × (result ≤ length text.now) }
 {
-    let mut i = 0;
-    while i < text.len() {
-        if !is_digit(text[i]) {
-            return i;
-        }
-        i += 1;
-    }
-    i
+    text.iter().take_while(|byte| is_digit(**byte)).count()
 }
 
 // What a digit stands for.
+#[tactic(auto, using(crate::proofs::Scanning::digit_range))]
 fn figure(byte: u8) -> u64
     requires { is_digit byte ≡ true }
     ensures { (result ≡ byte - 48) × (result < 10) }
 {
-    (byte - b'0') as u64
+    u64::from(byte - b'0')
 }
 
 // The number that digits make. Once it is too large it stays so: later digits only add to it.
-fn made(word: &[u8]) -> Value
+fn made(word: &[u8]) -> Result<u32, Fault>
     requires { leading is_digit word.now ≡ length word.now }
     ensures { result ≡ valued (made_on 0 word.now) }
 {
     let mut n: u64 = 0;
-    let mut i = 0;
-    while i < word.len() {
-        n = 10 * n + figure(word[i]);
-        if 4294967295 < n {
-            return Value::Wrong(Fault::TooLarge);
+    for byte in word {
+        n = 10 * n + figure(*byte);
+        if u64::from(u32::MAX) < n {
+            return Err(Fault::TooLarge);
         }
-        i += 1;
     }
-    Value::Is(n as u32)
+    Ok(n as u32)
 }
 
 // A word as a number.
-fn number_of(word: &[u8]) -> Value
+#[tactic(auto, unfolding(crate::specs::Lines::number_of))]
+fn number_of(word: &[u8]) -> Result<u32, Fault>
     ensures { result ≡ number_of word.now }
 {
     let n = word.len();
     if n == 0 {
-        return Value::Wrong(Fault::MissingNumber);
+        return Err(Fault::MissingNumber);
     }
     if digits(word) != n {
-        return Value::Wrong(Fault::NotANumber);
+        return Err(Fault::NotANumber);
     }
     made(word)
 }
 
 // Nothing but blanks stands there.
+#[tactic(auto, unfolding(crate::specs::Words::only_blanks))]
 fn is_empty(text: &[u8]) -> bool
     ensures { result ≡ only_blanks text.now }
 {
@@ -128,7 +102,7 @@ fn word_end(text: &[u8], start: usize) -> usize
 }
 
 // The first word as a number.
-fn number_in(text: &[u8]) -> Value
+fn number_in(text: &[u8]) -> Result<u32, Fault>
     ensures { result ≡ number_of (word_in text.now) }
 {
     let start = blanks(text);
@@ -145,116 +119,83 @@ fn behind(text: &[u8]) -> &[u8]
 }
 
 // A number with nothing behind it.
-fn last_number(text: &[u8]) -> Value
+#[tactic(auto, unfolding(crate::specs::Lines::last_number, crate::specs::Lines::ended))]
+fn last_number(text: &[u8]) -> Result<u32, Fault>
     ensures { result ≡ last_number text.now }
 {
-    match number_in(text) {
-        Value::Is(n) => {
-            if !is_empty(behind(text)) {
-                return Value::Wrong(Fault::TooMuch);
-            }
-            Value::Is(n)
-        }
-        Value::Wrong(why) => Value::Wrong(why),
+    let n = number_in(text)?;
+    if !is_empty(behind(text)) {
+        return Err(Fault::TooMuch);
     }
+    Ok(n)
 }
 
+#[tactic(auto, unfolding(crate::specs::Lines::holds))]
 fn take_in(text: &[u8]) -> Line
     ensures { result ≡ holds (λ size. call.Take record { 0 = size }) (last_number text.now) }
 {
-    match last_number(text) {
-        Value::Is(size) => Line::Holds(Call::Take(Size(size))),
-        Value::Wrong(why) => Line::Bad(why),
-    }
+    let size = last_number(text)?;
+    Ok(Some(Call::Take(Size(size))))
 }
 
-// A hand-back whose record is read.
-fn offset_in(handle: u32, text: &[u8]) -> Line
-    ensures { result ≡ holds (λ offset. call.HandBack record { offset = offset; metadata = record { 0 = handle } }) (last_number text.now) }
-{
-    match last_number(text) {
-        Value::Is(offset) => Line::Holds(Call::HandBack(Allocation {
-            offset,
-            metadata: Handle(handle),
-        })),
-        Value::Wrong(why) => Line::Bad(why),
-    }
-}
-
+#[tactic(auto, unfolding(crate::specs::Lines::holds, crate::specs::Lines::holds_two))]
 fn hand_back_in(text: &[u8]) -> Line
     ensures { result ≡ holds_two (λ handle offset. call.HandBack record { offset = offset; metadata = record { 0 = handle } })
         (number_of (word_in text.now)) (behind_word text.now) }
 {
-    match number_in(text) {
-        Value::Is(handle) => offset_in(handle, behind(text)),
-        Value::Wrong(why) => Line::Bad(why),
-    }
+    let handle = number_in(text)?;
+    let offset = last_number(behind(text))?;
+    Ok(Some(Call::HandBack(Allocation {
+        offset,
+        metadata: Handle(handle),
+    })))
 }
 
-// A setup whose size is read.
-fn count_in(size: u32, text: &[u8]) -> Line
-    ensures { result ≡ holds (λ count. call.SetUp record { 0 = size } count) (last_number text.now) }
-{
-    match last_number(text) {
-        Value::Is(count) => Line::Holds(Call::SetUp(Size(size), count)),
-        Value::Wrong(why) => Line::Bad(why),
-    }
-}
-
+#[tactic(auto, unfolding(crate::specs::Lines::holds, crate::specs::Lines::holds_two))]
 fn set_up_in(text: &[u8]) -> Line
     ensures { result ≡ holds_two (λ size count. call.SetUp record { 0 = size } count)
         (number_of (word_in text.now)) (behind_word text.now) }
 {
-    match number_in(text) {
-        Value::Is(size) => count_in(size, behind(text)),
-        Value::Wrong(why) => Line::Bad(why),
-    }
+    let size = number_in(text)?;
+    let count = last_number(behind(text))?;
+    Ok(Some(Call::SetUp(Size(size), count)))
 }
 
+#[tactic(auto, unfolding(crate::specs::Lines::resets))]
 fn reset_in(text: &[u8]) -> Line
     ensures { result ≡ resets text.now }
 {
-    if is_empty(text) {
-        return Line::Holds(Call::Reset);
+    if !is_empty(text) {
+        return Err(Fault::TooMuch);
     }
-    Line::Bad(Fault::TooMuch)
-}
-
-fn is_word(word: &[u8], known: &[u8]) -> bool
-    ensures { result ≡ same word.now known.now }
-{
-    check::same(word, known)
+    Ok(Some(Call::Reset))
 }
 
 // By the first word.
+#[tactic(auto, unfolding(crate::specs::Lines::call_in))]
 fn call_in(word: &[u8], text: &[u8]) -> Line
     ensures { result ≡ call_in word.now text.now }
 {
-    if is_word(word, b"setup") {
-        return set_up_in(text);
+    match word {
+        b"setup" => set_up_in(text),
+        b"take" => take_in(text),
+        b"back" => hand_back_in(text),
+        b"reset" => reset_in(text),
+        _ => Err(Fault::UnknownWord),
     }
-    if is_word(word, b"take") {
-        return take_in(text);
-    }
-    if is_word(word, b"back") {
-        return hand_back_in(text);
-    }
-    if is_word(word, b"reset") {
-        return reset_in(text);
-    }
-    Line::Bad(Fault::UnknownWord)
 }
 
 // What a line holds.
+#[tactic(auto, unfolding(crate::specs::Lines::line_in, crate::specs::Words::only_blanks))]
 pub fn read_line(bytes: &[u8]) -> Line
     ensures { result ≡ line_in bytes.now }
 {
     let start = blanks(bytes);
     if start == bytes.len() {
-        return Line::Blank;
+        return Ok(None);
     }
     if bytes[start] == b'#' {
-        return Line::Blank;
+        return Ok(None);
     }
     let end = word_end(bytes, start);
     call_in(&bytes[start..end], &bytes[end..])

@@ -21,6 +21,7 @@ fn digits(n: u32) -> usize
 {
     let mut count = 1;
     let mut rest = n;
+    // by the digits that are left, and no index: the text of std's numbers goes to a writer, of which there is none into lent bytes without a heap
     while 10 <= rest {
         rest = rest / 10;
         count += 1;
@@ -59,12 +60,9 @@ fn put_word(word: &[u8], out: &mut [u8]) -> usize
     requires { length word.now ≤ length out.old }
     ensures { PutAt word.now out.old 0 out.new result }
 {
-    let mut i = 0;
-    while i < word.len() {
-        out[i] = word[i];
-        i += 1;
-    }
-    i
+    let n = word.len();
+    out[..n].copy_from_slice(word);
+    n
 }
 
 // A word and a number.
@@ -86,6 +84,7 @@ fn put_two(word: &[u8], first: u32, second: u32, out: &mut [u8]) -> usize
     put_number(second, out, behind)
 }
 
+// The bytes are the caller's, 32 or more of them, and no array of a type, since nobody is asked for just so many.
 fn put_call(call: Call, out: &mut [u8]) -> usize
     requires { 32 ≤ length out.old }
     ensures { PutAt (text_of call) out.old 0 out.new result }
@@ -115,14 +114,24 @@ fn put_plain(n: u32, out: &mut [u8]) -> usize
     put_decimal(n, out, 0)
 }
 
+// What is done gives a span, or nothing.
+fn put_done(given: Option<Allocation>, out: &mut [u8]) -> usize
+    requires { 32 ≤ length out.old }
+    ensures { PutAt (answer_text (Ok given)) out.old 0 out.new result }
+{
+    match given {
+        None => put_word(b"0", out),
+        Some(span) => put_granted(span, out),
+    }
+}
+
 fn put_answer(answer: Answer, out: &mut [u8]) -> usize
     requires { 32 ≤ length out.old }
     ensures { PutAt (answer_text answer) out.old 0 out.new result }
 {
     match answer {
-        Answer::Done => put_word(b"0", out),
-        Answer::Granted(span) => put_granted(span, out),
-        Answer::Refused(why) => put_plain(why.number(), out),
+        Ok(given) => put_done(given, out),
+        Err(why) => put_plain(why.number(), out),
     }
 }
 

@@ -1,58 +1,44 @@
 // Damaged journals, one after the other, drawn from one seed.
-use crate::{counts, drawn, replaying_one};
-
-#[derive(Clone, Copy)]
-struct Trial {
-    seed: u32,
-    sum: u32,
-}
+use crate::counts::Counts;
+use crate::drawn::Seed;
+use crate::{drawn, replaying_one};
+use journal_lines::Lines;
+use std::io;
 
 // A journal drawn, damaged and replayed.
 fn try_one(
-    trial: Trial,
+    seed: &mut Seed,
     journal: &mut [u8],
-    out: &mut [u8; 65536],
-    tally: &mut [u64; 16],
+    counts: &mut Counts,
+    out: &mut Lines,
     nodes: &mut [u32; 8192],
     free_nodes: &mut [u32; 1024],
-) -> Trial {
-    let whole = drawn::draw(trial.seed, journal);
-    let damaged = drawn::damage(whole, journal);
-    let bytes = journal_lines::front(journal, damaged.len);
-    Trial {
-        seed: damaged.seed,
-        sum: replaying_one::replay(trial.sum, false, bytes, out, tally, nodes, free_nodes),
-    }
-}
-
-fn print_at(journals: u32, every: u32, sum: u32) {
-    if every == 0 {
-        return;
-    }
-    if journals % every == 0 {
-        counts::print_sum(journals, sum);
-    }
+) {
+    let whole = drawn::draw(seed, journal);
+    let damaged = drawn::damage(seed, journal, whole);
+    let bytes = journal_lines::front(journal, damaged);
+    replaying_one::replay(false, bytes, counts, out, nodes, free_nodes);
 }
 
 // So many journals, with a line after every so many.
-pub fn try_drawn(journals: u32, every: u32, out: &mut [u8; 65536]) {
+pub fn try_drawn(rt: &impl Print, journals: u32, every: u32, out: &mut Lines) -> io::Result<()> {
     let mut journal = [0u8; 256];
-    let mut tally = [0u64; 16];
+    let mut counts = Counts::new();
     let mut nodes = [0u32; 8192];
     let mut free_nodes = [0u32; 1024];
-    let mut trial = Trial { seed: 1, sum: 0 };
-    let mut i = 0u32;
-    while i < journals {
-        i += 1;
-        trial = try_one(
-            trial,
+    let mut seed = Seed(1);
+    for i in 0..journals {
+        try_one(
+            &mut seed,
             &mut journal,
+            &mut counts,
             out,
-            &mut tally,
             &mut nodes,
             &mut free_nodes,
         );
-        print_at(i, every, trial.sum);
+        if every != 0 && (i + 1) % every == 0 {
+            println!(rt; "{} {}", i + 1, counts.sum)?;
+        }
     }
-    counts::print(&tally);
+    println!(rt; "{counts}")
 }

@@ -10,21 +10,19 @@ mod replaying_one;
 mod room;
 mod rows;
 
+use journal_lines::Lines;
+use std::io;
+
 // How many damaged journals are tried, and how many between two lines.
 const DAMAGED: u32 = 100000;
 
 const EVERY: u32 = 1000;
 
-fn try_rows(input: &mut [u8; 65536], journal: &mut [u8; 131072], out: &mut [u8; 65536]) {
-    let n = rows::input(input);
-    rows::replay_all(input, n, journal, out);
-}
-
-fn main() {
+fn main(rt: HostRuntime) -> io::Result<()> {
     let mut input = [0u8; 65536];
     let mut journal = [0u8; 131072];
-    let mut out = [0u8; 65536];
-    try_rows(&mut input, &mut journal, &mut out);
-    room::try_all();
-    damage::try_drawn(DAMAGED, EVERY, &mut out);
+    let mut out = Lines::new();
+    rows::replay_all(&rt, &mut input, &mut journal, &mut out)?;
+    room::try_all(&rt)?;
+    damage::try_drawn(&rt, DAMAGED, EVERY, &mut out)
 }

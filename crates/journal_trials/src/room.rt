@@ -3,11 +3,11 @@
 use crate::counts;
 use answers::{Allocation, Handle};
 use calls::Call;
-use journal::entry::Wrote;
 use small_float::Size;
+use std::io;
 
 // How often there was room, how often not, and the sum.
-#[derive(Clone, Copy)]
+#[derive(Drop)]
 struct Tried {
     room: u32,
     none: u32,
@@ -17,90 +17,40 @@ struct Tried {
 // What the buffers hold before.
 const FILLED: u8 = 170;
 
-fn one_more(n: u32) -> u32 {
-    if n == u32::MAX {
-        return n;
+impl Tried {
+    fn mix(&mut self, n: u32) {
+        self.sum = counts::mix(self.sum, n);
     }
-    n + 1
-}
 
-fn fill(buffer: &mut [u8]) {
-    let mut i: usize = 0;
-    while i < buffer.len() {
-        buffer[i] = FILLED;
-        i += 1;
+    fn try_at(&mut self, call: Call, buffer: &mut [u8], at: usize) {
+        buffer.fill(FILLED);
+        let written = journal::writing::write(call, buffer, at);
+        self.mix(journal::entry::number(written));
+        match written {
+            Ok(next) => {
+                self.room = self.room.saturating_add(1);
+                self.mix((next % 65536) as u32);
+            }
+            Err(_) => self.none = self.none.saturating_add(1),
+        }
+        for byte in buffer.iter() {
+            self.mix(u32::from(*byte));
+        }
     }
-}
 
-fn sum_of(sum: u32, buffer: &[u8]) -> u32 {
-    let mut so_far = sum;
-    let mut i: usize = 0;
-    while i < buffer.len() {
-        so_far = counts::mix_byte(so_far, buffer[i]);
-        i += 1;
-    }
-    so_far
-}
-
-fn count(tried: Tried, outcome: Wrote) -> Tried {
-    match outcome {
-        Wrote::Before(next) => Tried {
-            room: one_more(tried.room),
-            none: tried.none,
-            sum: counts::mix(
-                counts::mix(tried.sum, outcome.number()),
-                (next % 65536) as u32,
-            ),
-        },
-        Wrote::NoRoom => Tried {
-            room: tried.room,
-            none: one_more(tried.none),
-            sum: counts::mix(tried.sum, outcome.number()),
-        },
+    // Each place of the first bytes of a buffer, and one behind them all; of each length.
+    fn try_call(&mut self, call: Call) {
+        let mut buffer = [0u8; 16];
+        for n in 0..17 {
+            for at in 0..18 {
+                self.try_at(call, &mut buffer[..n], at);
+            }
+        }
     }
 }
 
-fn try_at(tried: Tried, call: Call, buffer: &mut [u8], at: usize) -> Tried {
-    fill(buffer);
-    let counted = count(tried, journal::writing::write(call, buffer, at));
-    Tried {
-        room: counted.room,
-        none: counted.none,
-        sum: sum_of(counted.sum, buffer),
-    }
-}
-
-// Each place of the first bytes of a buffer, and one behind them all.
-fn try_places(tried: Tried, call: Call, buffer: &mut [u8]) -> Tried {
-    let mut so_far = tried;
-    let mut at: usize = 0;
-    while at < 18 {
-        so_far = try_at(so_far, call, buffer, at);
-        at += 1;
-    }
-    so_far
-}
-
-fn try_length(tried: Tried, call: Call, buffer: &mut [u8], n: usize) -> Tried {
-    if buffer.len() < n {
-        return tried;
-    }
-    try_places(tried, call, &mut buffer[..n])
-}
-
-fn try_call(tried: Tried, call: Call, buffer: &mut [u8]) -> Tried {
-    let mut so_far = tried;
-    let mut n: usize = 0;
-    while n < 17 {
-        so_far = try_length(so_far, call, buffer, n);
-        n += 1;
-    }
-    so_far
-}
-
-pub fn try_all() {
-    let mut buffer = [0u8; 16];
-    let none = Tried {
+pub fn try_all(rt: &impl Print) -> io::Result<()> {
+    let mut tried = Tried {
         room: 0,
         none: 0,
         sum: 0,
@@ -109,11 +59,11 @@ pub fn try_all() {
         offset: 1144201745,
         metadata: Handle(2289526357),
     };
-    let one = try_call(none, Call::Take(Size(1144201745)), &mut buffer);
-    let two = try_call(one, Call::HandBack(span), &mut buffer);
-    let three = try_call(two, Call::SetUp(Size(1144201745), 2289526357), &mut buffer);
-    let all = try_call(three, Call::Reset, &mut buffer);
-    counts::line(b"room ", all.room as u64);
-    counts::line(b"no room ", all.none as u64);
-    counts::line(b"bytes ", all.sum as u64);
+    tried.try_call(Call::Take(Size(1144201745)));
+    tried.try_call(Call::HandBack(span));
+    tried.try_call(Call::SetUp(Size(1144201745), 2289526357));
+    tried.try_call(Call::Reset);
+    println!(rt; "room {}", tried.room)?;
+    println!(rt; "no room {}", tried.none)?;
+    println!(rt; "bytes {}", tried.sum)
 }

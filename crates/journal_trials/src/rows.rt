@@ -1,192 +1,104 @@
 // A row is a journal: its bytes in hexadecimal, and `z`, a number and a dot for as many zeros.
 use crate::replaying_one;
-use streams::{STDIN_FILENO, STDOUT_FILENO};
+use journal_lines::Lines;
+use streams::STDIN_FILENO;
 
-// All the rows. They are few, and fit the buffer.
-pub fn input(buffer: &mut [u8]) -> usize {
-    io::read_full(STDIN_FILENO, buffer)
-}
-
-// What has been read of a row: how many bytes its journal has so far; whether the next digit is the second of a byte, and the first one; whether a
-// number of zeros is being read, and the number.
+// What has been read of what the journal's next bytes are made of.
 #[derive(Clone, Copy)]
-struct Row {
+enum Part {
+    Nothing,
+    // the first digit of a byte
+    Half(u8),
+    // a number of zeros
+    Zeros(u32),
+}
+
+// The row that is being read: how many bytes its journal has so far, and what has been read of the next ones; and how many rows came before it.
+#[derive(Drop)]
+struct Rows {
     len: usize,
-    half: bool,
-    first: u8,
-    zeros: bool,
-    count: u32,
-}
-
-fn begin() -> Row {
-    Row {
-        len: 0,
-        half: false,
-        first: 0,
-        zeros: false,
-        count: 0,
-    }
-}
-
-fn put(journal: &mut [u8], at: usize, byte: u8) -> usize {
-    if journal.len() <= at {
-        return at;
-    }
-    journal[at] = byte;
-    at + 1
-}
-
-fn put_zeros(journal: &mut [u8], at: usize, count: u32) -> usize {
-    let mut to = at;
-    let mut i = 0u32;
-    while i < count {
-        i += 1;
-        to = put(journal, to, 0);
-    }
-    to
+    part: Part,
+    rows: u64,
 }
 
 // A digit's value; 16 where it is none.
 fn value(digit: u8) -> u8 {
-    if digit < b'0' {
-        return 16;
-    }
-    if digit <= b'9' {
-        return digit - b'0';
-    }
-    if digit < b'a' {
-        return 16;
-    }
-    if digit <= b'f' {
-        return digit - b'a' + 10;
-    }
-    16
-}
-
-// A digit of the number of zeros, or the dot behind it.
-fn count_on(row: Row, byte: u8, journal: &mut [u8]) -> Row {
-    if byte == b'.' {
-        return Row {
-            len: put_zeros(journal, row.len, row.count),
-            half: false,
-            first: 0,
-            zeros: false,
-            count: 0,
-        };
-    }
-    let more = (row.count as u64) * 10 + (value(byte) as u64);
-    Row {
-        len: row.len,
-        half: false,
-        first: 0,
-        zeros: true,
-        count: (more % 1000000) as u32,
+    match digit {
+        b'0'..=b'9' => digit - b'0',
+        b'a'..=b'f' => digit - b'a' + 10,
+        _ => 16,
     }
 }
 
-// A digit of a byte.
-fn digit_on(row: Row, byte: u8, journal: &mut [u8]) -> Row {
-    if row.half {
-        let whole = (row.first as u32) * 16 + (value(byte) as u32);
-        return Row {
-            len: put(journal, row.len, (whole % 256) as u8),
-            half: false,
-            first: 0,
-            zeros: false,
-            count: 0,
-        };
+impl Rows {
+    fn put(&mut self, journal: &mut [u8], byte: u8) {
+        if self.len < journal.len() {
+            journal[self.len] = byte;
+            self.len += 1;
+        }
     }
-    Row {
-        len: row.len,
-        half: true,
-        first: value(byte),
-        zeros: false,
-        count: 0,
+
+    fn put_zeros(&mut self, journal: &mut [u8], count: u32) {
+        for _ in 0..count {
+            self.put(journal, 0);
+        }
+    }
+
+    // A digit of the number of zeros, or the dot behind it.
+    fn count_on(&mut self, count: u32, byte: u8, journal: &mut [u8]) {
+        if byte == b'.' {
+            self.put_zeros(journal, count);
+            self.part = Part::Nothing;
+            return;
+        }
+        let more = u64::from(count) * 10 + u64::from(value(byte));
+        self.part = Part::Zeros((more % 1000000) as u32);
+    }
+
+    // One byte of a row more.
+    fn feed(&mut self, byte: u8, journal: &mut [u8]) {
+        match self.part {
+            Part::Zeros(count) => self.count_on(count, byte, journal),
+            _ if byte == b'z' => self.part = Part::Zeros(0),
+            Part::Half(first) => {
+                let whole = u32::from(first) * 16 + u32::from(value(byte));
+                self.put(journal, (whole % 256) as u8);
+                self.part = Part::Nothing;
+            }
+            Part::Nothing => self.part = Part::Half(value(byte)),
+        }
+    }
+
+    // A row ends: its journal is replayed.
+    fn end_row(&mut self, rt: &impl Print, journal: &[u8], out: &mut Lines) -> std::io::Result<()> {
+        self.rows = self.rows.saturating_add(1);
+        println!(rt; "journal {}", self.rows)?;
+        replaying_one::show(journal_lines::front(journal, self.len), out);
+        self.len = 0;
+        self.part = Part::Nothing;
+        Ok(())
     }
 }
 
-// One byte of a row more.
-fn feed(row: Row, byte: u8, journal: &mut [u8]) -> Row {
-    if row.zeros {
-        return count_on(row, byte, journal);
-    }
-    if byte == b'z' {
-        return Row {
-            len: row.len,
-            half: false,
-            first: 0,
-            zeros: true,
-            count: 0,
-        };
-    }
-    digit_on(row, byte, journal)
-}
-
-fn print_head(number: u64) {
-    io::write_all(STDOUT_FILENO, b"journal ");
-    io::print_decimal(STDOUT_FILENO, number);
-    io::write_all(STDOUT_FILENO, b"\n");
-}
-
-// The row that is being read, and how many came before it.
-#[derive(Clone, Copy)]
-struct Reading {
-    row: Row,
-    rows: u64,
-}
-
-// A row ends: its journal is replayed.
-fn end_row(reading: Reading, journal: &[u8], out: &mut [u8; 65536]) -> Reading {
-    let row = reading.row;
-    let number = next_number(reading.rows);
-    print_head(number);
-    replaying_one::show(journal_lines::front(journal, row.len), out);
-    Reading {
-        row: begin(),
-        rows: number,
-    }
-}
-
-fn next_number(rows: u64) -> u64 {
-    if rows == u64::MAX {
-        return rows;
-    }
-    rows + 1
-}
-
-fn read_on(reading: Reading, byte: u8, journal: &mut [u8], out: &mut [u8; 65536]) -> Reading {
-    if byte == b'\n' {
-        return end_row(reading, journal, out);
-    }
-    let row = reading.row;
-    Reading {
-        row: feed(row, byte, journal),
-        rows: reading.rows,
-    }
-}
-
-fn replay_rows(input: &[u8], journal: &mut [u8], out: &mut [u8; 65536]) {
-    let mut reading = Reading {
-        row: begin(),
+// All the rows of the input. They are few, and fit the buffer.
+pub fn replay_all(
+    rt: &impl Print,
+    input: &mut [u8; 65536],
+    journal: &mut [u8; 131072],
+    out: &mut Lines,
+) -> std::io::Result<()> {
+    let n = io::read_full(STDIN_FILENO, input);
+    let mut rows = Rows {
+        len: 0,
+        part: Part::Nothing,
         rows: 0,
     };
-    let mut i: usize = 0;
-    while i < input.len() {
-        let byte = input[i];
-        i += 1;
-        reading = read_on(reading, byte, journal, out);
+    for byte in journal_lines::front(input, n) {
+        if *byte == b'\n' {
+            rows.end_row(rt, journal, out)?;
+        } else {
+            rows.feed(*byte, journal);
+        }
     }
-}
-
-fn replay_first(input: &[u8], n: usize, journal: &mut [u8], out: &mut [u8; 65536]) {
-    replay_rows(journal_lines::front(input, n), journal, out);
-}
-
-pub fn replay_all(
-    input: &[u8; 65536],
-    n: usize,
-    journal: &mut [u8; 131072],
-    out: &mut [u8; 65536],
-) {
-    replay_first(input, n, journal, out);
+    Ok(())
 }

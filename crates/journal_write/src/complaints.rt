@@ -1,33 +1,40 @@
-// What is wrong with a line, told on standard error.
+// Why nothing more is read, as it is told on standard error.
+use journal::entry::NoRoom;
 use journal_text::line::Fault;
-use streams::STDERR_FILENO;
+use std::fmt;
 
-fn say(text: &[u8]) {
-    io::write_all(STDERR_FILENO, text);
+// A line, by its number, was bad, or a write failed.
+#[derive(Clone, Copy)]
+pub enum Complaint {
+    Fault(u64, Fault),
+    // a line of more than 200 bytes
+    Length(u64),
+    Output,
 }
 
-fn begin(line: u64) {
-    say(b"line ");
-    io::print_decimal(STDERR_FILENO, line);
-    say(b": ");
-}
-
-pub fn of_fault(line: u64, fault: Fault) {
-    begin(line);
-    match fault {
-        Fault::UnknownWord => say(b"the first word is none of setup, take, back and reset\n"),
-        Fault::MissingNumber => say(b"a number is missing\n"),
-        Fault::NotANumber => say(b"a number has something in it that is no digit\n"),
-        Fault::TooLarge => say(b"a number is more than 32 bits hold (4294967295 is the largest)\n"),
-        Fault::TooMuch => say(b"something stands behind the last number\n"),
+// There is room for every record, so that none comes to this.
+impl From<NoRoom> for Complaint {
+    fn from(_full: NoRoom) -> Complaint {
+        Complaint::Output
     }
 }
 
-pub fn of_length(line: u64) {
-    begin(line);
-    say(b"it has more than 200 bytes\n");
+fn text(fault: Fault) -> &'static str {
+    match fault {
+        Fault::UnknownWord => "the first word is none of setup, take, back and reset",
+        Fault::MissingNumber => "a number is missing",
+        Fault::NotANumber => "a number has something in it that is no digit",
+        Fault::TooLarge => "a number is more than 32 bits hold (4294967295 is the largest)",
+        Fault::TooMuch => "something stands behind the last number",
+    }
 }
 
-pub fn of_output() {
-    say(b"the journal could not be written\n");
+impl fmt::Display for Complaint {
+    fn fmt<W: fmt::Write>(&self, f: &mut fmt::Formatter<W>) -> fmt::Result {
+        match *self {
+            Complaint::Fault(line, fault) => write!(f, "line {line}: {}", text(fault)),
+            Complaint::Length(line) => write!(f, "line {line}: it has more than 200 bytes"),
+            Complaint::Output => f.write_str("the journal could not be written"),
+        }
+    }
 }

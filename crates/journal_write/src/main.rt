@@ -5,50 +5,38 @@
 mod complaints;
 mod progress;
 
+use complaints::Complaint;
 use progress::Progress;
 use streams::STDIN_FILENO;
 
-// All of the bytes, in order.
-fn feed_all(
-    progress: Progress,
-    bytes: &[u8],
-    line: &mut [u8; 201],
-    out: &mut [u8; 65536],
-) -> Progress {
-    let mut fed = progress;
-    let mut i = 0;
-    while i < bytes.len() {
-        let byte = bytes[i];
-        i += 1;
-        fed = fed.feed(byte, line, out);
-    }
-    fed
-}
-
-// The text to its end. A proved loop has to end, and nothing says that the input does: so turns are counted down, from a number that no run uses up.
-fn write_text(line: &mut [u8; 201], out: &mut [u8; 65536]) -> Progress {
-    let mut progress = Progress::new();
+// The text to its end; the last line may lack its newline. A proved loop has to end, and nothing says that the input does: so turns are counted, up to a
+// number that no run reaches.
+fn write_text(progress: &mut Progress) -> Result<(), Complaint> {
     let mut buffer = io::large_buffer();
-    let mut turns = u64::MAX;
-    while turns > 0 {
-        turns -= 1;
+    for _ in 0..u64::MAX {
         let n = io::read_full(STDIN_FILENO, &mut buffer);
         if n == 0 {
-            return progress;
+            break;
         }
-        progress = feed_all(progress, &buffer[..n], line, out);
-        if !progress.going {
-            return progress;
+        for byte in &buffer[..n] {
+            progress.feed(*byte)?;
         }
     }
-    progress
+    progress.at_end()
 }
 
-// The last line may lack its newline.
-fn main() {
-    let mut line = [0u8; 201];
-    let mut out = io::large_buffer();
-    let progress = write_text(&mut line, &mut out);
-    let last = progress.at_end(&line, &mut out);
-    last.flush(&out);
+// Where it stopped, why.
+fn tell(rt: &impl Eprint, written: Result<(), Complaint>) -> std::io::Result<()> {
+    match written {
+        Ok(()) => Ok(()),
+        Err(why) => eprintln!(rt; "{why}"),
+    }
+}
+
+// The records of the lines before a bad one are written all the same, and where that cannot be told.
+fn main(rt: HostRuntime) -> std::io::Result<()> {
+    let mut progress = Progress::new();
+    let read = tell(&rt, write_text(&mut progress));
+    tell(&rt, progress.flush())?;
+    read
 }

@@ -1,147 +1,90 @@
 // The text read so far, and the records that wait to be written.
-use crate::complaints;
+use crate::complaints::Complaint;
 use calls::Call;
-use journal::entry::Wrote;
-use journal_text::line::Line;
 use streams::STDOUT_FILENO;
 
-#[derive(Clone, Copy)]
+#[derive(Drop)]
 pub struct Progress {
-    // bytes of the line that is being read; 201 stands for any number above 200
-    pub length: usize,
+    // the line that is being read, and how many bytes it has; 201 stands for any number above 200
+    line: [u8; 201],
+    length: usize,
     // lines that have ended
-    pub lines: u64,
-    // bytes of records that wait
-    pub waiting: usize,
-    // no line was bad, and no write failed
-    pub going: bool,
-}
-
-fn one_more(n: u64) -> u64 {
-    if n == u64::MAX {
-        return n;
-    }
-    n + 1
+    lines: u64,
+    // records, and how many bytes of them wait
+    records: [u8; 65536],
+    waiting: usize,
 }
 
 impl Progress {
     pub fn new() -> Progress {
         Progress {
+            line: [0; 201],
             length: 0,
             lines: 0,
+            records: [0; 65536],
             waiting: 0,
-            going: true,
-        }
-    }
-
-    // With so many bytes that wait.
-    fn with_waiting(self, waiting: usize) -> Progress {
-        Progress {
-            length: self.length,
-            lines: self.lines,
-            waiting,
-            going: self.going,
-        }
-    }
-
-    // Nothing more is read.
-    fn stopped(self) -> Progress {
-        Progress {
-            length: 0,
-            lines: self.lines,
-            waiting: self.waiting,
-            going: false,
-        }
-    }
-
-    // A line has ended, and the next begins.
-    fn next_line(self) -> Progress {
-        Progress {
-            length: 0,
-            lines: one_more(self.lines),
-            waiting: self.waiting,
-            going: self.going,
         }
     }
 
     // One byte more of the line; past 200 they are not kept.
-    fn keep(self, byte: u8, line: &mut [u8; 201]) -> Progress {
-        let length = self.length;
-        if 201 <= length {
-            return self;
-        }
-        line[length] = byte;
-        Progress {
-            length: length + 1,
-            lines: self.lines,
-            waiting: self.waiting,
-            going: self.going,
+    fn keep(&mut self, byte: u8) {
+        if self.length < 201 {
+            self.line[self.length] = byte;
+            self.length += 1;
         }
     }
 
     // What waits is written.
-    pub fn flush(self, out: &[u8; 65536]) -> Progress {
-        if io::write_all(STDOUT_FILENO, journal_lines::front(out, self.waiting)) {
-            return self.with_waiting(0);
+    pub fn flush(&mut self) -> Result<(), Complaint> {
+        let written = io::write_all(
+            STDOUT_FILENO,
+            journal_lines::front(&self.records, self.waiting),
+        );
+        self.waiting = 0;
+        if !written {
+            return Err(Complaint::Output);
         }
-        complaints::of_output();
-        self.with_waiting(0).stopped()
+        Ok(())
     }
 
-    // A record behind those that wait, if it has room there.
-    fn put(self, call: Call, out: &mut [u8; 65536]) -> Progress {
-        match journal::writing::write(call, out, self.waiting) {
-            Wrote::Before(next) => self.with_waiting(next),
-            Wrote::NoRoom => self.stopped(),
+    // A record behind those that wait: the longest has 12 bytes, so that there is room for one after what waits is written.
+    fn record(&mut self, call: Call) -> Result<(), Complaint> {
+        if 65000 <= self.waiting {
+            self.flush()?;
         }
-    }
-
-    // A record more: the longest has 12 bytes, so that there is room for one after what waits is written.
-    fn record(self, call: Call, out: &mut [u8; 65536]) -> Progress {
-        if self.waiting < 65000 {
-            return self.put(call, out);
-        }
-        let flushed = self.flush(out);
-        if !flushed.going {
-            return flushed;
-        }
-        flushed.put(call, out)
+        self.waiting = journal::writing::write(call, &mut self.records, self.waiting)?;
+        Ok(())
     }
 
     // A whole line, by what it holds.
-    fn end_line(self, line: &[u8; 201], out: &mut [u8; 65536]) -> Progress {
+    fn end_line(&mut self) -> Result<(), Complaint> {
         let length = self.length;
-        let next = self.next_line();
+        self.length = 0;
+        self.lines = self.lines.saturating_add(1);
         if 200 < length {
-            complaints::of_length(next.lines);
-            return next.stopped();
+            return Err(Complaint::Length(self.lines));
         }
-        match journal_text::reading::read_line(journal_lines::front(line, length)) {
-            Line::Holds(call) => next.record(call, out),
-            Line::Blank => next,
-            Line::Bad(fault) => {
-                complaints::of_fault(next.lines, fault);
-                next.stopped()
-            }
+        match journal_text::reading::read_line(journal_lines::front(&self.line, length)) {
+            Ok(Some(call)) => self.record(call),
+            Ok(None) => Ok(()),
+            Err(fault) => Err(Complaint::Fault(self.lines, fault)),
         }
     }
 
     // The text with a byte more.
-    pub fn feed(self, byte: u8, line: &mut [u8; 201], out: &mut [u8; 65536]) -> Progress {
-        if !self.going {
-            return self;
-        }
+    pub fn feed(&mut self, byte: u8) -> Result<(), Complaint> {
         if byte == b'\n' {
-            return self.end_line(line, out);
+            return self.end_line();
         }
-        self.keep(byte, line)
+        self.keep(byte);
+        Ok(())
     }
 
     // The text has ended.
-    pub fn at_end(self, line: &[u8; 201], out: &mut [u8; 65536]) -> Progress {
+    pub fn at_end(&mut self) -> Result<(), Complaint> {
         if self.length == 0 {
-            return self;
+            return Ok(());
         }
-        self.end_line(line, out)
+        self.end_line()
     }
 }

@@ -12,7 +12,7 @@ ghost use Rattle.answers.specs.Asked.{request_of, token_of};
 ghost use Rattle.answers.specs.Answers.{take_says, back_says};
 ghost use Rattle.records.specs.InWords.{of_array, words_of};
 
-use answers::{Allocation, BackAnswer, TakeAnswer};
+use answers::{Allocation, Refusal};
 use records::totals::Totals;
 use small_float::Size;
 
@@ -24,7 +24,7 @@ pub fn allocate(
     used_bins: &mut [u8; 32],
     nodes: &mut [u32],
     free_nodes: &[u32],
-) -> TakeAnswer
+) -> Result<Allocation, Refusal>
     ensures { Promise edition32 (Take (request_of size))
         (words_of (of_array scalars.old) bin_indices.old used_bins.old nodes.old free_nodes.now)
         (words_of (of_array scalars.new) bin_indices.new used_bins.new nodes.new free_nodes.now)
@@ -45,7 +45,7 @@ pub fn free(
     used_bins: &mut [u8; 32],
     nodes: &mut [u32],
     free_nodes: &mut [u32],
-) -> BackAnswer
+) -> Result<(), Refusal>
     ensures { Promise edition32 (HandBack (token_of span))
         (words_of (of_array scalars.old) bin_indices.old used_bins.old nodes.old free_nodes.old)
         (words_of (of_array scalars.new) bin_indices.new used_bins.new nodes.new free_nodes.new)

@@ -6,19 +6,13 @@ ghost use Rattle.answers.specs.Asked.{request_of};
 ghost use Rattle.answers.specs.Answers.{take_says};
 ghost use Rattle.offset_allocator.specs.HeadWords.{head_words};
 
-use crate::head::Head;
-use answers::TakeAnswer;
+use crate::head::{Answered, Head};
+use answers::{Allocation, Refusal};
 use small_float::Size;
-
-#[derive(Clone, Copy)]
-pub struct Allocated {
-    pub answer: TakeAnswer,
-    pub head: Head,
-}
 
 impl Head {
     // A span of this size, or why not.
-    pub fn allocate(self, size: Size, nodes: &mut [u32], free_nodes: &[u32]) -> Allocated
+    pub fn allocate(self, size: Size, nodes: &mut [u32], free_nodes: &[u32]) -> Answered<Allocation>
         ensures { Promise edition32 (Take (request_of size))
             (head_words self nodes.old free_nodes.now)
             (head_words result.head nodes.new free_nodes.now)
@@ -37,6 +31,6 @@ impl Head {
             bin_indices,
             used_bins,
         };
-        Allocated { answer, head }
+        Answered { answer, head }
     }
 }

@@ -5,17 +5,26 @@ ghost use Rattle.answers.specs.Answers.{audit_says};
 ghost use Rattle.offset_allocator.specs.HeadWords.{head_words};
 
 use crate::head::Head;
-use answers::AuditAnswer;
+use answers::Refusal;
 
 impl Head {
     // Sound, or why not.
-    pub fn audit(self, nodes: &[u32], free_nodes: &[u32], scratch: &mut [u32]) -> AuditAnswer
+    pub fn audit(
+        self,
+        nodes: &[u32],
+        free_nodes: &[u32],
+        scratch: &mut [u32],
+    ) -> Result<(), Refusal>
         ensures { AuditPromise edition32 (head_words self nodes.now free_nodes.now)
             scratch.old scratch.new (audit_says result) }
     {
-        let t = self.totals;
-        let bin_indices = self.bin_indices;
-        let used_bins = self.used_bins;
-        auditing::audit(t, &bin_indices, &used_bins, nodes, free_nodes, scratch)
+        auditing::audit(
+            self.totals,
+            &self.bin_indices,
+            &self.used_bins,
+            nodes,
+            free_nodes,
+            scratch,
+        )
     }
 }

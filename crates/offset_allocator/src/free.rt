@@ -6,18 +6,12 @@ ghost use Rattle.answers.specs.Asked.{token_of};
 ghost use Rattle.answers.specs.Answers.{back_says};
 ghost use Rattle.offset_allocator.specs.HeadWords.{head_words};
 
-use crate::head::Head;
-use answers::{Allocation, BackAnswer};
-
-#[derive(Clone, Copy)]
-pub struct Freed {
-    pub answer: BackAnswer,
-    pub head: Head,
-}
+use crate::head::{Answered, Head};
+use answers::Allocation;
 
 impl Head {
     // A span goes back, or why not.
-    pub fn free(self, span: Allocation, nodes: &mut [u32], free_nodes: &mut [u32]) -> Freed
+    pub fn free(self, span: Allocation, nodes: &mut [u32], free_nodes: &mut [u32]) -> Answered<()>
         ensures { Promise edition32 (HandBack (token_of span))
             (head_words self nodes.old free_nodes.old)
             (head_words result.head nodes.new free_nodes.new)
@@ -36,6 +30,6 @@ impl Head {
             bin_indices,
             used_bins,
         };
-        Freed { answer, head }
+        Answered { answer, head }
     }
 }

@@ -1,4 +1,5 @@
 // The head record: all that an allocator keeps besides its two lent tables.
+use answers::Refusal;
 use records::totals::Totals;
 
 #[derive(Clone, Copy)]
@@ -14,4 +15,11 @@ impl Head {
     pub const BINS_PER_LEAF: usize = 8;
 
     pub const NUM_LEAF_BINS: usize = Head::NUM_TOP_BINS * Head::BINS_PER_LEAF;
+}
+
+// What a call that can change the head gives back: its answer, and the head as it leaves it.
+#[derive(Clone, Copy)]
+pub struct Answered<T> {
+    pub answer: Result<T, Refusal>,
+    pub head: Head,
 }

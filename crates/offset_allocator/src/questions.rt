@@ -6,27 +6,40 @@ ghost use Rattle.asking.specs.Answers.{Asked};
 ghost use Rattle.offset_allocator.specs.HeadWords.{head_words};
 
 use crate::head::Head;
-use answers::{Allocation, FillAnswer, FullAnswer, ReportAnswer, SizeAnswer};
+use answers::{Allocation, FullAnswer, Refusal, StorageReport};
+use small_float::Size;
 
 impl Head {
     // The length of a live span.
-    pub fn allocation_size(self, span: Allocation, nodes: &[u32], free_nodes: &[u32]) -> SizeAnswer
+    pub fn allocation_size(
+        self,
+        span: Allocation,
+        nodes: &[u32],
+        free_nodes: &[u32],
+    ) -> Result<Size, Refusal>
         ensures { Asked (size_says result) (SizeOf (token_of span)) (head_words self nodes.now free_nodes.now) }
     {
-        let t = self.totals;
-        let bin_indices = self.bin_indices;
-        let used_bins = self.used_bins;
-        asking::allocation_size(t, span, &bin_indices, &used_bins, nodes, free_nodes)
+        asking::allocation_size(
+            self.totals,
+            span,
+            &self.bin_indices,
+            &self.used_bins,
+            nodes,
+            free_nodes,
+        )
     }
 
     // The sum of the free lengths, and the value of the highest class that holds a region; 0 and 0 with one spare record.
-    pub fn storage_report(self, nodes: &[u32], free_nodes: &[u32]) -> ReportAnswer
+    pub fn storage_report(self, nodes: &[u32], free_nodes: &[u32]) -> Result<StorageReport, Refusal>
         ensures { Asked (report_says result) Report (head_words self nodes.now free_nodes.now) }
     {
-        let t = self.totals;
-        let bin_indices = self.bin_indices;
-        let used_bins = self.used_bins;
-        asking::storage_report(t, &bin_indices, &used_bins, nodes, free_nodes)
+        asking::storage_report(
+            self.totals,
+            &self.bin_indices,
+            &self.used_bins,
+            nodes,
+            free_nodes,
+        )
     }
 
     // The value of each class, and how many free regions it holds.
@@ -35,19 +48,25 @@ impl Head {
         ensures figures { FiguresOfZero result }
         ensures places { AllPlaces result }
     {
-        let t = self.totals;
-        let bin_indices = self.bin_indices;
-        let used_bins = self.used_bins;
-        asking::storage_report_full(t, &bin_indices, &used_bins, nodes, free_nodes)
+        asking::storage_report_full(
+            self.totals,
+            &self.bin_indices,
+            &self.used_bins,
+            nodes,
+            free_nodes,
+        )
     }
 
     // The live lengths summed, and how many of 256 equal parts of the store they fill.
-    pub fn fill(self, nodes: &[u32], free_nodes: &[u32]) -> FillAnswer
+    pub fn fill(self, nodes: &[u32], free_nodes: &[u32]) -> Result<answers::Fill, Refusal>
         ensures { Asked (fill_says result) Fill (head_words self nodes.now free_nodes.now) }
     {
-        let t = self.totals;
-        let bin_indices = self.bin_indices;
-        let used_bins = self.used_bins;
-        asking::fill(t, &bin_indices, &used_bins, nodes, free_nodes)
+        asking::fill(
+            self.totals,
+            &self.bin_indices,
+            &self.used_bins,
+            nodes,
+            free_nodes,
+        )
     }
 }

@@ -6,15 +6,8 @@ ghost use Rattle.tables.specs.Promise.{Promise, SetupPromise};
 ghost use Rattle.answers.specs.Answers.{start_says};
 ghost use Rattle.offset_allocator.specs.HeadWords.{head_words};
 
-use crate::head::Head;
-use answers::StartAnswer;
+use crate::head::{Answered, Head};
 use small_float::Size;
-
-#[derive(Clone, Copy)]
-pub struct SetUp {
-    pub answer: StartAnswer,
-    pub head: Head,
-}
 
 impl Head {
     // A store of this size, all of it free, with this many records: the fresh head. Refused, the head is one of zeros.
@@ -23,7 +16,7 @@ impl Head {
         max_allocs: u32,
         nodes: &mut [u32],
         free_nodes: &mut [u32],
-    ) -> SetUp
+    ) -> Answered<()>
         ensures { SetupPromise edition32 size.0 max_allocs (tables_alone nodes.old free_nodes.old)
             (head_words result.head nodes.new free_nodes.new)
             (start_says result.answer) }
@@ -45,11 +38,11 @@ impl Head {
             bin_indices,
             used_bins,
         };
-        SetUp { answer, head }
+        Answered { answer, head }
     }
 
     // The same with the count of records that the Rust takes by default.
-    pub fn new(size: Size, nodes: &mut [u32], free_nodes: &mut [u32]) -> SetUp
+    pub fn new(size: Size, nodes: &mut [u32], free_nodes: &mut [u32]) -> Answered<()>
         ensures { SetupPromise edition32 size.0 131072 (tables_alone nodes.old free_nodes.old)
             (head_words result.head nodes.new free_nodes.new)
             (start_says result.answer) }
@@ -58,7 +51,7 @@ impl Head {
     }
 
     // All spans are forgotten: the store is as after setup, whatever the words held.
-    pub fn reset(self, nodes: &mut [u32], free_nodes: &mut [u32]) -> SetUp
+    pub fn reset(self, nodes: &mut [u32], free_nodes: &mut [u32]) -> Answered<()>
         ensures { Promise edition32 Reset
             (head_words self nodes.old free_nodes.old)
             (head_words result.head nodes.new free_nodes.new)
@@ -75,6 +68,6 @@ impl Head {
             bin_indices,
             used_bins,
         };
-        SetUp { answer, head }
+        Answered { answer, head }
     }
 }

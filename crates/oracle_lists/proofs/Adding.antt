@@ -6,13 +6,13 @@ use mathlib.Core.List.{List, [], ◌∷◌}
 use native.Mathlib.Omega.{arith}
 use lib.ListN.{length}
 use borrow.Author.Tests.{ne_eqb}
-use Rattle.basics.proofs.Decided.{same?, same, differ}
+use Rattle.std.specs.Prelude.{Option, None, Some}
 use Rattle.oracle_lists.specs.declared.tally.Verdict.{Verdict}
 use Rattle.oracle_lists.specs.declared.tally.Verdict.TheVariants.{Agrees, Listed, Differs}
 use Rattle.oracle_lists.specs.declared.tally.Tally.{Tally}
 use Rattle.oracle_lists.specs.declared.classes.Comparison.{Comparison}
 use Rattle.oracle_lists.specs.Rows.{fed, is_whole}
-use Rattle.oracle_lists.specs.Tally.{one_more, first_other, counted}
+use Rattle.oracle_lists.specs.Tally.{one_more, first_from, counted}
 use Rattle.oracle_lists.specs.Verdicts.{row_verdict}
 use Rattle.oracle_lists.specs.Comparison.{no_bytes, after_byte, after_bytes}
 use Rattle.oracle_lists.specs.Facts.{AddsUp}
@@ -21,12 +21,9 @@ one_more_lem : (n : ℕ) → n < 18_446_744_073_709_551_615 → one_more n ≡ n
 unfolding one_more
 one_more_lem n h = rw (ne_eqb n 18_446_744_073_709_551_615 (λ e. omega arith))
 
-first_named : (t : Tally) → t.rows < 18_446_744_073_709_551_615 → first_other t ≡ 0 → ⊥
-first_named t h e =
-    elim (same? t.first 0) [
-      | same p q ↦ let none : one_more t.rows ≡ 0 = rw q at e in omega (arith, one_more_lem t.rows h)
-      | differ p q ↦ let none : t.first ≡ 0 = rw q at e in p none
-    ]
+first_named : (first : Option ℕ) (row : ℕ) → first_from first row ≡ None → ⊥
+first_named None row e = cc
+first_named (Some first) row e = cc
 
 module _ (t : Tally) (sums : AddsUp t) (room : t.rows < 18_446_744_073_709_551_615) where
   row_counted : (v : Verdict) → (counted t v).rows ≡ t.rows + 1
@@ -47,7 +44,7 @@ module _ (t : Tally) (sums : AddsUp t) (room : t.rows < 18_446_744_073_709_551_6
   }
   counted_adds Differs = record {
     sum = omega (arith, sums.sum, one_more_lem t.rows room, one_more_lem t.other (omega (arith, sums.sum)));
-    named = (λ e. absurd (first_named t room e), λ e. absurd (omega (arith, e, one_more_lem t.other (omega (arith, sums.sum)))));
+    named = (λ e. absurd (first_named t.first _ e), λ e. absurd (omega (arith, e, one_more_lem t.other (omega (arith, sums.sum)))));
   }
 
   -- whether a row ended or not

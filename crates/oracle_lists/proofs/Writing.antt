@@ -5,6 +5,7 @@ use mathlib.Core.Logic.{◌↔◌}
 use mathlib.Core.List.{List, [], ◌∷◌, ◌++◌, append_assoc, append-nil}
 use native.Mathlib.Omega.{arith}
 use lib.ListN.{length, get_or}
+use Rattle.std.specs.Prelude.{None}
 use Rattle.basics.proofs.Decided.{below, beyond, below?}
 use Rattle.oracle_lists.specs.declared.tally.Tally.{Tally}
 use Rattle.oracle_lists.specs.Facts.{Decimal, one_digit, digit_more, Numbers, none, number_more, Written, RowWritten, AddsUp}
@@ -36,13 +37,13 @@ more_written {text} {ns} p (m ∷ ms) h =
 pub row_written : (ns : List ℕ) → ((i : ℕ) → i < length ns → get_or ns i 0 < 2 ^ 32) → RowWritten ns
 row_written ns h = more_written none ns h
 
-pub hides_none : (t : Tally) → AddsUp t → t.first ≡ 0 → t.agreed + t.listed ≡ t.rows
+pub hides_none : (t : Tally) → AddsUp t → t.first ≡ None → t.agreed + t.listed ≡ t.rows
 hides_none t a e = omega (arith, a.sum, a.named.0 e)
 
-pub names_none : (t : Tally) → AddsUp t → t.agreed + t.listed ≡ t.rows → t.first ≡ 0
+pub names_none : (t : Tally) → AddsUp t → t.agreed + t.listed ≡ t.rows → t.first ≡ None
 names_none t a e = a.named.1 (omega (arith, a.sum))
 
-pub adds_up_exactly : (t : Tally) → AddsUp t ↔ ((t.agreed + t.listed + t.other ≡ t.rows) × ((t.first ≡ 0) ↔ (t.other ≡ 0)))
+pub adds_up_exactly : (t : Tally) → AddsUp t ↔ ((t.agreed + t.listed + t.other ≡ t.rows) × ((t.first ≡ None) ↔ (t.other ≡ 0)))
 adds_up_exactly t = (λ a. (a.sum, a.named), λ h. record { sum = h.0; named = h.1 })
 
 -- ---- any digits are a number

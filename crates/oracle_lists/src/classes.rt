@@ -6,16 +6,15 @@ ghost use Rattle.oracle_lists.specs.Comparison.{no_bytes, after_byte, after_byte
 
 use crate::rows::Reader;
 use crate::tally::{Tally, Verdict};
-use small_float::ext::Smallest;
-use small_float::{Class, RoundedUp, Size};
+use small_float::{Class, Size};
 
 // What the Rust rounds a size up to: the port's class, or 240 where the port has none.
 fn up_in_rust(size: u32) -> u32
     ensures { result ≡ in_rust (rounded_up size) }
 {
     match small_float::uint_to_float_round_up(Size(size)) {
-        RoundedUp::To(class) => class.0,
-        RoundedUp::NoClass => 240,
+        Some(class) => class.0,
+        None => 240,
     }
 }
 
@@ -24,13 +23,13 @@ fn judge_smallest(size: u32, smallest: u32) -> Verdict
     ensures { result ≡ served_verdict (rounded_up size) smallest }
 {
     match small_float::ext::min_allocator_size(Size(size)) {
-        Smallest::Store(store) => {
+        Ok(store) => {
             if store.0 == smallest {
                 return Verdict::Agrees;
             }
             Verdict::Differs
         }
-        Smallest::TooLarge => {
+        Err(_) => {
             if smallest == 0 {
                 return Verdict::Listed;
             }
@@ -40,6 +39,7 @@ fn judge_smallest(size: u32, smallest: u32) -> Verdict
 }
 
 // A size with its class rounded down, its class rounded up and its smallest store, as the Rust gives them.
+#[tactic(auto, unfolding(crate::specs::Verdicts::size_verdict))]
 pub fn judge_size(size: u32, down: u32, up: u32, smallest: u32) -> Verdict
     ensures { result ≡ size_verdict size down up smallest }
 {
@@ -75,22 +75,15 @@ pub fn judge_class(class: u32, value: u32) -> Verdict
 }
 
 // A whole row: `c CLASS VALUE` or `s SIZE DOWN UP SMALLEST`. Any other differs.
+#[tactic(auto, unfolding(crate::specs::Verdicts::row_verdict))]
 pub fn judge_row(row: Reader) -> Verdict
     ensures { result ≡ row_verdict row }
 {
-    if row.letter == b'c' {
-        if row.fields == 2 {
-            return judge_class(row.c, row.d);
-        }
-        return Verdict::Differs;
+    match (row.letter, row.fields) {
+        (b'c', 2) => judge_class(row.c, row.d),
+        (b's', 4) => judge_size(row.a, row.b, row.c, row.d),
+        _ => Verdict::Differs,
     }
-    if row.letter == b's' {
-        if row.fields == 4 {
-            return judge_size(row.a, row.b, row.c, row.d);
-        }
-        return Verdict::Differs;
-    }
-    Verdict::Differs
 }
 
 // The list read so far: the row that is being read, and the tally of those before it.
@@ -111,6 +104,7 @@ impl Comparison {
     }
 
     // One byte more; where it ends a row, the row is judged.
+    #[tactic(auto, unfolding(crate::specs::Comparison::after_byte))]
     pub fn feed(self, byte: u8) -> Comparison
         ensures { result ≡ after_byte self byte }
     {
@@ -131,10 +125,8 @@ impl Comparison {
         ensures { result ≡ after_bytes self bytes.now }
     {
         let mut comparison = self;
-        let mut i = 0;
-        while i < bytes.len() {
-            comparison = comparison.feed(bytes[i]);
-            i += 1;
+        for byte in bytes {
+            comparison = comparison.feed(*byte);
         }
         comparison
     }

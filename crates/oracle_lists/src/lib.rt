@@ -2,5 +2,6 @@
 #![tactic(auto)]
 
 pub mod classes;
+pub mod input;
 pub mod rows;
 pub mod tally;

@@ -14,6 +14,7 @@ pub enum State {
 }
 
 // The row read so far. Its numbers come in at d and move up, so that the last number of a whole row is d, the one before it c.
+// How many there were stands beside, since the theorems of lists (`specs/Facts`) speak of rows so.
 #[derive(Clone, Copy)]
 pub struct Reader {
     pub state: State,
@@ -29,9 +30,16 @@ impl Reader {
     pub fn new() -> Reader
         ensures { result ≡ fresh State.Between 0 }
     {
+        Reader::fresh(State::Between, 0)
+    }
+
+    // A row with a letter and no number yet.
+    fn fresh(state: State, letter: u8) -> Reader
+        ensures { result ≡ fresh state letter }
+    {
         Reader {
-            state: State::Between,
-            letter: 0,
+            state,
+            letter,
             fields: 0,
             a: 0,
             b: 0,
@@ -44,35 +52,17 @@ impl Reader {
     fn spoiled() -> Reader
         ensures { result ≡ no_list }
     {
-        Reader {
-            state: State::Spoiled,
-            letter: 0,
-            fields: 0,
-            a: 0,
-            b: 0,
-            c: 0,
-            d: 0,
-        }
+        Reader::fresh(State::Spoiled, 0)
     }
 
     // The first byte of a row is its letter.
+    #[tactic(auto, unfolding(crate::specs::Rows::begun))]
     fn begin(byte: u8) -> Reader
         ensures { result ≡ begun byte }
     {
-        if byte < b'a' {
-            return Reader::spoiled();
-        }
-        if b'z' < byte {
-            return Reader::spoiled();
-        }
-        Reader {
-            state: State::Within,
-            letter: byte,
-            fields: 0,
-            a: 0,
-            b: 0,
-            c: 0,
-            d: 0,
+        match byte {
+            b'a'..=b'z' => Reader::fresh(State::Within, byte),
+            _ => Reader::spoiled(),
         }
     }
 
@@ -82,16 +72,12 @@ impl Reader {
     {
         Reader {
             state: State::Whole,
-            letter: self.letter,
-            fields: self.fields,
-            a: self.a,
-            b: self.b,
-            c: self.c,
-            d: self.d,
+            ..self
         }
     }
 
     // A space: the next number begins.
+    #[tactic(auto, unfolding(crate::specs::Rows::with_field))]
     fn field(self) -> Reader
         ensures { result ≡ with_field self }
     {
@@ -101,16 +87,17 @@ impl Reader {
         }
         Reader {
             state: State::Opened,
-            letter: self.letter,
             fields: fields + 1,
             a: self.b,
             b: self.c,
             c: self.d,
             d: 0,
+            ..self
         }
     }
 
     // A digit's value, added to the last number; more than 32 bits hold spoils the list.
+    #[tactic(auto, unfolding(crate::specs::Rows::with_digit))]
     fn digit(self, value: u8) -> Reader
         requires { value < 10 }
         ensures { result ≡ with_digit self value }
@@ -121,54 +108,44 @@ impl Reader {
         }
         Reader {
             state: State::Within,
-            letter: self.letter,
-            fields: self.fields,
-            a: self.a,
-            b: self.b,
-            c: self.c,
             d: longer as u32,
+            ..self
         }
     }
 
     // A byte that must be a digit.
+    #[tactic(auto, unfolding(crate::specs::Rows::with_figure))]
     fn figure(self, byte: u8) -> Reader
         ensures { result ≡ with_figure self byte }
     {
-        if byte < b'0' {
-            return Reader::spoiled();
+        match byte {
+            b'0'..=b'9' => self.digit(byte - b'0'),
+            _ => Reader::spoiled(),
         }
-        if b'9' < byte {
-            return Reader::spoiled();
-        }
-        self.digit(byte - b'0')
     }
 
     // A byte after a row's letter or a digit.
+    #[tactic(auto, unfolding(crate::specs::Rows::continued))]
     fn within(self, byte: u8) -> Reader
         ensures { result ≡ continued self byte }
     {
-        if byte == b'\n' {
-            return self.end();
+        match byte {
+            b'\n' => self.end(),
+            b' ' => self.field(),
+            _ if self.fields == 0 => Reader::spoiled(),
+            _ => self.figure(byte),
         }
-        if byte == b' ' {
-            return self.field();
-        }
-        if self.fields == 0 {
-            return Reader::spoiled();
-        }
-        self.figure(byte)
     }
 
     // The reader after one byte more.
+    #[tactic(auto, unfolding(crate::specs::Rows::fed_at))]
     pub fn feed(self, byte: u8) -> Reader
         ensures { result ≡ fed self byte }
     {
-        let state = self.state;
-        match state {
-            State::Between => Reader::begin(byte),
+        match self.state {
+            State::Between | State::Whole => Reader::begin(byte),
             State::Within => self.within(byte),
             State::Opened => self.figure(byte),
-            State::Whole => Reader::begin(byte),
             State::Spoiled => self,
         }
     }
@@ -177,27 +154,13 @@ impl Reader {
     pub fn is_whole(self) -> bool
         ensures { result ≡ is_whole self.state }
     {
-        let state = self.state;
-        match state {
-            State::Between => false,
-            State::Within => false,
-            State::Opened => false,
-            State::Whole => true,
-            State::Spoiled => false,
-        }
+        matches!(self.state, State::Whole)
     }
 
     // A list may end here: before its first row, or after a whole one.
     pub fn ends_well(self) -> bool
         ensures { result ≡ ends_well self.state }
     {
-        let state = self.state;
-        match state {
-            State::Between => true,
-            State::Within => false,
-            State::Opened => false,
-            State::Whole => true,
-            State::Spoiled => false,
-        }
+        matches!(self.state, State::Between | State::Whole)
     }
 }

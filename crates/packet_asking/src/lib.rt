@@ -2,19 +2,17 @@
 // audit's scratch.
 #![tactic(auto)]
 
-ghost use Rattle.std.specs.Prelude.{◌≡◌};
 ghost use Rattle.answers.specs.Asked.{token_of};
-ghost use Rattle.answers.specs.Answers.{size_says, audit_says};
-ghost use Rattle.answers.specs.Answers as store;
 ghost use Rattle.tables.specs.Calls.{edition32};
 ghost use Rattle.packets.specs.Stores.{two, store_of};
-ghost use Rattle.packets.specs.Calls.{Read, LengthOf, ReportOf, shows, plain};
+ghost use Rattle.packets.specs.Calls.{Read, LengthOf, ReportOf, shows};
 ghost use Rattle.packets.specs.Answers.{done_says, length_says, report_says};
 ghost use Rattle.packets.specs.Promise.{PacketPromise, PacketAudit};
 
-use answers::{AuditAnswer, ReportAnswer, SizeAnswer};
-use packets::{Packet, PacketAnswer, PacketLength, PacketRefusal, PacketReport, Store};
+use answers::StorageReport;
+use packets::{Packet, PacketRefusal, Store};
 use records::totals::Totals;
+use small_float::Size;
 
 // The part of whichever store holds the packet, never a copy; an empty part on a refusal, which the length tells from an empty packet.
 pub fn read<'a>(
@@ -32,23 +30,20 @@ pub fn read<'a>(
     ex_free_nodes: &[u32],
     ex_bytes: &'a [u8],
 ) -> &'a [u8]
-    ensures { PacketPromise edition32 (Read packet.store (token_of packet.span))
-        (two (store_of on_chip on_bin_indices.now on_used_bins.now on_nodes.now
+    ensures { let t = two
+        (store_of on_chip on_bin_indices.now on_used_bins.now on_nodes.now
         on_free_nodes.now on_bytes.now)
         (store_of external ex_bin_indices.now ex_used_bins.now ex_nodes.now
-        ex_free_nodes.now ex_bytes.now))
-        (two (store_of on_chip on_bin_indices.now on_used_bins.now on_nodes.now
-        on_free_nodes.now on_bytes.now)
-        (store_of external ex_bin_indices.now ex_used_bins.now ex_nodes.now
-        ex_free_nodes.now ex_bytes.now))
+        ex_free_nodes.now ex_bytes.now)
+        in PacketPromise edition32 (Read packet.store (token_of packet.span)) t t
         (shows result.now) }
 {
     if packet_store::too_short(on_chip.size, on_bytes, external.size, ex_bytes) {
         return parts::no_part(on_bytes);
     }
     let span = packet.span;
-    let store = packet.store;
-    match store {
+    // an arm for each store here and below, as in `packet_giving`
+    match packet.store {
         Store::OnChip => packet_store::read(
             on_chip,
             span,
@@ -70,15 +65,6 @@ pub fn read<'a>(
     }
 }
 
-fn length_told(answer: SizeAnswer) -> PacketLength
-    ensures { length_says result ≡ plain (size_says answer) }
-{
-    match answer {
-        SizeAnswer::Length(n) => PacketLength::Length(n),
-        SizeAnswer::Refused(why) => PacketLength::Refused(PacketRefusal::OfStore(why)),
-    }
-}
-
 // A packet's length, or why it cannot be read.
 pub fn length(
     packet: Packet,
@@ -94,26 +80,22 @@ pub fn length(
     ex_nodes: &[u32],
     ex_free_nodes: &[u32],
     ex_bytes: &[u8],
-) -> PacketLength
-    ensures { PacketPromise edition32 (LengthOf packet.store (token_of packet.span))
-        (two (store_of on_chip on_bin_indices.now on_used_bins.now on_nodes.now
+) -> Result<Size, PacketRefusal>
+    ensures { let t = two
+        (store_of on_chip on_bin_indices.now on_used_bins.now on_nodes.now
         on_free_nodes.now on_bytes.now)
         (store_of external ex_bin_indices.now ex_used_bins.now ex_nodes.now
-        ex_free_nodes.now ex_bytes.now))
-        (two (store_of on_chip on_bin_indices.now on_used_bins.now on_nodes.now
-        on_free_nodes.now on_bytes.now)
-        (store_of external ex_bin_indices.now ex_used_bins.now ex_nodes.now
-        ex_free_nodes.now ex_bytes.now))
+        ex_free_nodes.now ex_bytes.now)
+        in PacketPromise edition32 (LengthOf packet.store (token_of packet.span)) t t
         (length_says result) }
 {
     if packet_store::too_short(on_chip.size, on_bytes, external.size, ex_bytes) {
-        return PacketLength::Refused(PacketRefusal::StoreTooShort);
+        return Err(PacketRefusal::StoreTooShort);
     }
     let span = packet.span;
-    let store = packet.store;
-    match store {
+    match packet.store {
         Store::OnChip => {
-            length_told(packet_store::length_of(
+            packets::of_store(packet_store::length_of(
                 on_chip,
                 span,
                 on_bin_indices,
@@ -123,7 +105,7 @@ pub fn length(
             ))
         }
         Store::External => {
-            length_told(packet_store::length_of(
+            packets::of_store(packet_store::length_of(
                 external,
                 span,
                 ex_bin_indices,
@@ -132,15 +114,6 @@ pub fn length(
                 ex_free_nodes,
             ))
         }
-    }
-}
-
-fn report_told(answer: ReportAnswer) -> PacketReport
-    ensures { report_says result ≡ plain (store.report_says answer) }
-{
-    match answer {
-        ReportAnswer::Report(figures) => PacketReport::Report(figures),
-        ReportAnswer::Refused(why) => PacketReport::Refused(PacketRefusal::OfStore(why)),
     }
 }
 
@@ -159,45 +132,33 @@ pub fn report(
     ex_nodes: &[u32],
     ex_free_nodes: &[u32],
     ex_bytes: &[u8],
-) -> PacketReport
-    ensures { PacketPromise edition32 (ReportOf store)
-        (two (store_of on_chip on_bin_indices.now on_used_bins.now on_nodes.now
+) -> Result<StorageReport, PacketRefusal>
+    ensures { let t = two
+        (store_of on_chip on_bin_indices.now on_used_bins.now on_nodes.now
         on_free_nodes.now on_bytes.now)
         (store_of external ex_bin_indices.now ex_used_bins.now ex_nodes.now
-        ex_free_nodes.now ex_bytes.now))
-        (two (store_of on_chip on_bin_indices.now on_used_bins.now on_nodes.now
-        on_free_nodes.now on_bytes.now)
-        (store_of external ex_bin_indices.now ex_used_bins.now ex_nodes.now
-        ex_free_nodes.now ex_bytes.now))
+        ex_free_nodes.now ex_bytes.now)
+        in PacketPromise edition32 (ReportOf store) t t
         (report_says result) }
 {
     if packet_store::too_short(on_chip.size, on_bytes, external.size, ex_bytes) {
-        return PacketReport::Refused(PacketRefusal::StoreTooShort);
+        return Err(PacketRefusal::StoreTooShort);
     }
     match store {
-        Store::OnChip => report_told(asking::storage_report(
+        Store::OnChip => packets::of_store(asking::storage_report(
             on_chip,
             on_bin_indices,
             on_used_bins,
             on_nodes,
             on_free_nodes,
         )),
-        Store::External => report_told(asking::storage_report(
+        Store::External => packets::of_store(asking::storage_report(
             external,
             ex_bin_indices,
             ex_used_bins,
             ex_nodes,
             ex_free_nodes,
         )),
-    }
-}
-
-fn audit_told(answer: AuditAnswer) -> PacketAnswer
-    ensures { done_says result ≡ plain (audit_says answer) }
-{
-    match answer {
-        AuditAnswer::Sound => PacketAnswer::Done,
-        AuditAnswer::Refused(why) => PacketAnswer::Refused(PacketRefusal::OfStore(why)),
     }
 }
 
@@ -217,7 +178,7 @@ pub fn audit(
     ex_nodes: &[u32],
     ex_free_nodes: &[u32],
     ex_bytes: &[u8],
-) -> PacketAnswer
+) -> Result<(), PacketRefusal>
     ensures { PacketAudit edition32 store
         (two (store_of on_chip on_bin_indices.now on_used_bins.now on_nodes.now
         on_free_nodes.now on_bytes.now)
@@ -226,10 +187,10 @@ pub fn audit(
         scratch.old scratch.new (done_says result) }
 {
     if packet_store::too_short(on_chip.size, on_bytes, external.size, ex_bytes) {
-        return PacketAnswer::Refused(PacketRefusal::StoreTooShort);
+        return Err(PacketRefusal::StoreTooShort);
     }
     match store {
-        Store::OnChip => audit_told(auditing::audit(
+        Store::OnChip => packets::of_store(auditing::audit(
             on_chip,
             on_bin_indices,
             on_used_bins,
@@ -237,7 +198,7 @@ pub fn audit(
             on_free_nodes,
             scratch,
         )),
-        Store::External => audit_told(auditing::audit(
+        Store::External => packets::of_store(auditing::audit(
             external,
             ex_bin_indices,
             ex_used_bins,

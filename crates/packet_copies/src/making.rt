@@ -15,7 +15,7 @@ pub enum Asked {
     Take(u32),
     HandBack(Packet),
     // so many bytes, the first of which is this; each other is one more
-    Fill(Packet, u32, u8),
+    Fill(Packet, usize, u8),
     Ask(Question),
 }
 

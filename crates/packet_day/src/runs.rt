@@ -1,24 +1,15 @@
-// Runs of bytes: from a first one, each so much more than the one before, modulo 256.
-pub fn write(bytes: &mut [u8], first: u32, by: u32) {
-    let mut byte = first;
-    let mut i: usize = 0;
-    while i < bytes.len() {
-        let low = byte % 256;
-        bytes[i] = low as u8;
-        byte = low + by % 256;
-        i += 1;
-    }
-}
+// Runs of bytes.
 
-fn front_of<'a>(bytes: &'a [u8], n: u32) -> &'a [u8] {
-    let end = n as usize;
-    if bytes.len() < end {
-        return &bytes[0..0];
+// From a first one up, modulo 256.
+pub fn write(bytes: &mut [u8], first: u8) {
+    let mut next = first;
+    for byte in bytes.iter_mut() {
+        *byte = next;
+        next = next.wrapping_add(1);
     }
-    &bytes[0..end]
 }
 
 // The first bytes, so many of them.
-pub fn front<'a>(bytes: &'a [u8; 256], n: u32) -> &'a [u8] {
-    front_of(bytes, n)
+pub fn front(bytes: &[u8; 256], n: u32) -> &[u8] {
+    &bytes[..256.min(n as usize)]
 }

@@ -1,63 +1,41 @@
 // One step of the day: a node is drawn and what it does, the call is made, and what came of it is held to the model.
-use crate::stores::Heads;
+use crate::deeds::Deed;
+use crate::nodes::{Held, NODES, Node};
+use crate::stores::Stores;
 use crate::told::Told;
-use crate::{deeds, outcomes, reads, stores};
+use crate::{deeds, nodes, outcomes, reads, runs};
+use packets::Packet;
+use small_float::Size;
 
-#[derive(Clone, Copy)]
-pub struct Day {
-    pub told: Told,
-    pub heads: Heads,
+fn fill(told: &mut Told, stores: &mut Stores, node: &mut Node, held: Held, many: u32, first: u8) {
+    let mut new = [0; 256];
+    runs::write(&mut new, first);
+    let answer = stores.fill(held.packet, runs::front(&new, many));
+    outcomes::of_fill(told, node, held, many, first, answer);
 }
 
-pub fn step(
-    day: Day,
-    on_nodes: &mut [u32; 384],
-    on_free_nodes: &mut [u32; 48],
-    on_bytes: &mut [u8; 4096],
-    ex_nodes: &mut [u32; 7200],
-    ex_free_nodes: &mut [u32; 900],
-    ex_bytes: &mut [u8; 65536],
-    words: &mut [u32; 7200],
-    bytes: &mut [u8; 160000],
-) -> Day {
-    let told = day.told;
-    let heads = day.heads;
-    let planned = deeds::plan(told, words);
-    let at = planned.at;
-    let deed = planned.deed;
-    let asked = deeds::asked(deed, words, at);
-    let made = stores::make(
-        heads,
-        deed,
-        planned.many,
-        planned.first,
-        asked,
-        on_nodes,
-        on_free_nodes,
-        on_bytes,
-        ex_nodes,
-        ex_free_nodes,
-        ex_bytes,
-    );
-    let heads = made.heads;
-    let packet = made.packet;
-    let told = outcomes::of_deed(planned, made.number, packet, words, bytes);
-    Day {
-        told: reads::read(
-            told,
-            deed,
-            at,
-            asked,
-            heads,
-            on_nodes,
-            on_free_nodes,
-            on_bytes,
-            ex_nodes,
-            ex_free_nodes,
-            ex_bytes,
-            words,
-            bytes,
-        ),
-        heads,
+fn hand_back_elsewhere(told: &mut Told, stores: &mut Stores, node: &Node, packet: Packet) {
+    let answer = stores.hand_back(nodes::beside(packet));
+    outcomes::of_wrong_name(told, answer);
+    reads::read_held(told, false, node, stores);
+}
+
+pub fn step(told: &mut Told, stores: &mut Stores, nodes: &mut [Node; NODES]) {
+    let planned = deeds::plan(told, nodes);
+    let node = &mut nodes[planned.at];
+    match planned.deed {
+        Deed::Nothing => {}
+        Deed::Take(many) => {
+            let answer = stores.take(Size(many));
+            outcomes::of_take(told, node, many, answer);
+        }
+        Deed::HandBack(packet) => {
+            let answer = stores.hand_back(packet);
+            outcomes::of_back(told, node, packet, answer);
+        }
+        Deed::Fill(held, many, first) => fill(told, stores, node, held, many, first),
+        Deed::Read => reads::read_held(told, false, node, stores),
+        Deed::HandBackElsewhere(packet) => hand_back_elsewhere(told, stores, node, packet),
+        Deed::ReadStale(packet) => reads::read_stale(told, packet, nodes, stores),
     }
 }

@@ -4,34 +4,25 @@
 
 mod printing;
 
-use answers::{Allocation, Handle};
 use packet_copies::making::Asked;
 use packet_copies::questions::Question;
 use packet_copies::setting_up::Wanted;
 use packet_copies::sides::Sides;
-use packet_copies::told::Told;
+use packet_copies::told::{Made, Told};
 use packet_copies::{making, sides};
-use packets::{Packet, Store};
+use packets::{Both, Packet, PacketRefusal, Store};
+use printing::Answer;
+use std::io;
 
-// What a call answered, and both stores after it.
-#[derive(Clone, Copy)]
-struct Answered {
-    told: Told,
-    sides: Sides,
-}
-
-// One call and its answer, printed; the text fills a column.
-fn call(text: &[u8], asked: Asked, before: Sides) -> Answered {
+// One call and its answer, printed, a row of two columns.
+fn call(rt: &impl Print, text: &str, asked: Asked, before: Sides) -> io::Result<Made> {
     let made = making::make(asked, before);
-    let told = made.told;
-    let shown = made.shown;
-    let after = made.after;
-    printing::row(text, told, &shown);
-    Answered { told, sides: after }
+    println!(rt; "{text:<29}{}", Answer(&made))?;
+    Ok(made)
 }
 
-fn set_up() -> Sides {
-    let before = Sides {
+fn set_up(rt: &impl Print) -> io::Result<Sides> {
+    let before = Both {
         on_chip: sides::no_store(16),
         external: sides::no_store(64),
     };
@@ -44,89 +35,67 @@ fn set_up() -> Sides {
         max_allocs: 8,
     };
     let both = Asked::SetUpBoth(on_chip, external);
-    let answered = call(b"set up 16 with 4, 64 with 8  ", both, before);
-    answered.sides
+    let made = call(rt, "set up 16 with 4, 64 with 8", both, before)?;
+    Ok(made.after)
 }
 
 // The packet that was granted; where none was, a name that no store has.
-fn packet_in(told: Told) -> Packet {
+fn packet_in(told: Result<Told, PacketRefusal>) -> Packet {
     match told {
-        Told::Granted(packet) => packet,
-        _ => Packet {
-            store: Store::External,
-            span: Allocation {
-                offset: 0,
-                metadata: Handle(4294967295),
-            },
-        },
+        Ok(Told::Granted(packet)) => packet,
+        _ => Packet::named(Store::External, 0, u32::MAX),
     }
 }
 
-// Filled with three bytes, read, and not filled with more than it holds.
-fn fill(packet: Packet, before: Sides) -> Sides {
-    let fresh = call(
-        b"read it                      ",
-        Asked::Ask(Question::Read(packet)),
+fn read(rt: &impl Print, packet: Packet, before: Sides) -> io::Result<Sides> {
+    let made = call(rt, "read it", Asked::Ask(Question::Read(packet)), before)?;
+    Ok(made.after)
+}
+
+fn ask_length(rt: &impl Print, packet: Packet, before: Sides) -> io::Result<Sides> {
+    let made = call(
+        rt,
+        "its length",
+        Asked::Ask(Question::Length(packet)),
         before,
-    );
+    )?;
+    Ok(made.after)
+}
+
+// Filled with three bytes, read, and not filled with more than it holds.
+fn fill(rt: &impl Print, packet: Packet, before: Sides) -> io::Result<Sides> {
+    let fresh = read(rt, packet, before)?;
     let three = call(
-        b"fill it with 61 62 63        ",
+        rt,
+        "fill it with 61 62 63",
         Asked::Fill(packet, 3, 61),
-        fresh.sides,
-    );
-    let read = call(
-        b"read it                      ",
-        Asked::Ask(Question::Read(packet)),
-        three.sides,
-    );
+        fresh,
+    )?;
+    let filled = read(rt, packet, three.after)?;
     let seven = call(
-        b"fill it with 7 bytes         ",
+        rt,
+        "fill it with 7 bytes",
         Asked::Fill(packet, 7, 1),
-        read.sides,
-    );
-    let length = Question::Length(packet);
-    let told = call(
-        b"its length                   ",
-        Asked::Ask(length),
-        seven.sides,
-    );
-    told.sides
+        filled,
+    )?;
+    ask_length(rt, packet, seven.after)
 }
 
 // Handed back, it cannot be read; granted again, it does not show what was in it.
-fn hand_back(packet: Packet, before: Sides) {
-    let back = call(
-        b"hand it back                 ",
-        Asked::HandBack(packet),
-        before,
-    );
-    let read = call(
-        b"read it                      ",
-        Asked::Ask(Question::Read(packet)),
-        back.sides,
-    );
-    let length = Question::Length(packet);
-    let told = call(
-        b"its length                   ",
-        Asked::Ask(length),
-        read.sides,
-    );
-    let again = call(b"take 5                       ", Asked::Take(5), told.sides);
-    let told = again.told;
-    let packet = packet_in(told);
-    call(
-        b"read it                      ",
-        Asked::Ask(Question::Read(packet)),
-        again.sides,
-    );
+fn hand_back(rt: &impl Print, packet: Packet, before: Sides) -> io::Result<()> {
+    let back = call(rt, "hand it back", Asked::HandBack(packet), before)?;
+    let left = read(rt, packet, back.after)?;
+    let left = ask_length(rt, packet, left)?;
+    let again = call(rt, "take 5", Asked::Take(5), left)?;
+    read(rt, packet_in(again.told), again.after)?;
+    Ok(())
 }
 
-fn main() {
-    let before = set_up();
-    let taken = call(b"take 6                       ", Asked::Take(6), before);
-    let told = taken.told;
-    let packet = packet_in(told);
-    let filled = fill(packet, taken.sides);
-    let other = call(b"take 12                      ", Asked::Take(12), filled);
-    hand_back(packet, other.sides);
+fn main(rt: HostRuntime) -> io::Result<()> {
+    let before = set_up(&rt)?;
+    let taken = call(&rt, "take 6", Asked::Take(6), before)?;
+    let packet = packet_in(taken.told);
+    let filled = fill(&rt, packet, taken.after)?;
+    let other = call(&rt, "take 12", Asked::Take(12), filled)?;
+    hand_back(&rt, packet, other.after)
 }

@@ -1,73 +1,65 @@
-// A call and its answer, written to standard output.
+// A call's answer, as it is printed behind the call.
 use packet_copies::sides;
-use packet_copies::told::Told;
+use packet_copies::told::{Made, Told};
 use packets::{Packet, Store};
-use streams::STDOUT_FILENO;
+use std::fmt;
 
-fn print(text: &[u8]) {
-    io::write_all(STDOUT_FILENO, text);
-}
+// The bytes that a read showed, a space before each but the first.
+#[derive(Clone, Copy)]
+struct Bytes<'a>(&'a [u8]);
 
-fn number(n: u32) {
-    io::print_decimal(STDOUT_FILENO, n as u64);
-}
-
-fn store(store: Store) {
-    match store {
-        Store::OnChip => print(b"on-chip"),
-        Store::External => print(b"external"),
-    }
-}
-
-fn packet(packet: Packet) {
-    let place = packet.store;
-    let span = packet.span;
-    let handle = span.metadata;
-    store(place);
-    print(b", offset ");
-    number(span.offset);
-    print(b", record ");
-    number(handle.0);
-}
-
-// A space before each but the first.
-fn byte(i: usize, byte: u8) {
-    if 0 < i {
-        print(b" ");
-    }
-    number(byte as u32);
-}
-
-fn bytes(part: &[u8]) {
-    let mut i: usize = 0;
-    while i < part.len() {
-        byte(i, part[i]);
-        i += 1;
-    }
-}
-
-fn answer(told: Told, shown: &[u8; 64]) {
-    match told {
-        Told::Done => print(b"done"),
-        Told::Granted(granted) => packet(granted),
-        Told::Length(n) => number(n),
-        Told::Report(_, largest) => number(largest),
-        Told::Shown(many) => {
-            if many == 0 {
-                return print(b"nothing");
+impl<'a> fmt::Display for Bytes<'a> {
+    fn fmt<W: fmt::Write>(&self, f: &mut fmt::Formatter<W>) -> fmt::Result {
+        if self.0.is_empty() {
+            return f.write_str("nothing");
+        }
+        for (i, byte) in self.0.iter().enumerate() {
+            if 0 < i {
+                f.write_str(" ")?;
             }
-            bytes(sides::lent(shown, many))
+            write!(f, "{byte}")?;
         }
-        Told::Refused(why) => {
-            print(b"refusal ");
-            number(why);
-        }
+        Ok(())
     }
 }
 
-// The call, its answer, and the end of the row.
-pub fn row(text: &[u8], told: Told, shown: &[u8; 64]) {
-    print(text);
-    answer(told, shown);
-    print(b"\n");
+fn name(store: Store) -> &'static str {
+    match store {
+        Store::OnChip => "on-chip",
+        Store::External => "external",
+    }
+}
+
+// A granted packet: its store, and its span there.
+#[derive(Clone, Copy)]
+struct Granted(Packet);
+
+impl fmt::Display for Granted {
+    fn fmt<W: fmt::Write>(&self, f: &mut fmt::Formatter<W>) -> fmt::Result {
+        let Packet { store, span } = self.0;
+        write!(
+            f,
+            "{}, offset {}, record {}",
+            name(store),
+            span.offset,
+            span.metadata.0
+        )
+    }
+}
+
+#[derive(Clone, Copy)]
+pub struct Answer<'a>(pub &'a Made);
+
+impl<'a> fmt::Display for Answer<'a> {
+    fn fmt<W: fmt::Write>(&self, f: &mut fmt::Formatter<W>) -> fmt::Result {
+        let made = self.0;
+        match made.told {
+            Ok(Told::Done) => f.write_str("done"),
+            Ok(Told::Granted(packet)) => write!(f, "{}", Granted(packet)),
+            Ok(Told::Length(length)) => write!(f, "{}", length.0),
+            Ok(Told::Report(figures)) => write!(f, "{}", figures.largest_free_region.0),
+            Ok(Told::Shown(many)) => write!(f, "{}", Bytes(sides::lent(&made.shown, many))),
+            Err(why) => write!(f, "refusal {}", why.number()),
+        }
+    }
 }

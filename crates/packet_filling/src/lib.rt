@@ -8,7 +8,7 @@ ghost use Rattle.packets.specs.Calls.{Fill};
 ghost use Rattle.packets.specs.Answers.{done_says};
 ghost use Rattle.packets.specs.Promise.{PacketPromise};
 
-use packets::{Packet, PacketAnswer, PacketRefusal, Store};
+use packets::{Packet, PacketRefusal, Store};
 use records::totals::Totals;
 
 // These bytes at the packet's front; 17, after all else, where they are more than it holds.
@@ -27,7 +27,7 @@ pub fn fill(
     ex_nodes: &[u32],
     ex_free_nodes: &[u32],
     ex_bytes: &mut [u8],
-) -> PacketAnswer
+) -> Result<(), PacketRefusal>
     ensures { PacketPromise edition32 (Fill packet.store (token_of packet.span) new.now)
         (two (store_of on_chip on_bin_indices.now on_used_bins.now on_nodes.now
         on_free_nodes.now on_bytes.old)
@@ -40,11 +40,11 @@ pub fn fill(
         (done_says result) }
 {
     if packet_store::too_short(on_chip.size, on_bytes, external.size, ex_bytes) {
-        return PacketAnswer::Refused(PacketRefusal::StoreTooShort);
+        return Err(PacketRefusal::StoreTooShort);
     }
     let span = packet.span;
-    let store = packet.store;
-    match store {
+    // an arm for each store, as in `packet_giving`
+    match packet.store {
         Store::OnChip => packet_store::fill(
             on_chip,
             span,

@@ -1,35 +1,15 @@
 // Hand a packet back, in place: its store says whose it is, and no byte changes.
 #![tactic(auto)]
 
-ghost use Rattle.std.specs.Prelude.{◌≡◌};
 ghost use Rattle.answers.specs.Asked.{token_of};
-ghost use Rattle.answers.specs.Answers.{back_says};
 ghost use Rattle.tables.specs.Calls.{edition32};
 ghost use Rattle.packets.specs.Stores.{two, store_of};
-ghost use Rattle.packets.specs.Calls.{HandBack, plain};
+ghost use Rattle.packets.specs.Calls.{HandBack};
 ghost use Rattle.packets.specs.Answers.{done_says};
 ghost use Rattle.packets.specs.Promise.{PacketPromise};
 
-use answers::BackAnswer;
-use packets::{Packet, PacketAnswer, PacketRefusal, Store};
+use packets::{Both, Outcome, Packet, PacketRefusal, Store};
 use records::totals::Totals;
-
-// What a hand-back answered, and the scalars of both heads after it.
-#[derive(Clone, Copy)]
-pub struct PacketReturned {
-    pub answer: PacketAnswer,
-    pub on_chip: Totals,
-    pub external: Totals,
-}
-
-fn answered(answer: BackAnswer) -> PacketAnswer
-    ensures { done_says result ≡ plain (back_says answer) }
-{
-    match answer {
-        BackAnswer::Done => PacketAnswer::Done,
-        BackAnswer::Refused(why) => PacketAnswer::Refused(PacketRefusal::OfStore(why)),
-    }
-}
 
 // The packet's span goes back to its store, or why not.
 pub fn hand_back(
@@ -46,28 +26,27 @@ pub fn hand_back(
     ex_nodes: &mut [u32],
     ex_free_nodes: &mut [u32],
     ex_bytes: &[u8],
-) -> PacketReturned
+) -> Outcome<(), Both<Totals>>
     ensures { PacketPromise edition32 (HandBack packet.store (token_of packet.span))
         (two (store_of on_chip on_bin_indices.old on_used_bins.old on_nodes.old
         on_free_nodes.old on_bytes.now)
         (store_of external ex_bin_indices.old ex_used_bins.old ex_nodes.old
         ex_free_nodes.old ex_bytes.now))
-        (two (store_of result.on_chip on_bin_indices.new on_used_bins.new on_nodes.new
+        (two (store_of result.left.on_chip on_bin_indices.new on_used_bins.new on_nodes.new
         on_free_nodes.new on_bytes.now)
-        (store_of result.external ex_bin_indices.new ex_used_bins.new ex_nodes.new
+        (store_of result.left.external ex_bin_indices.new ex_used_bins.new ex_nodes.new
         ex_free_nodes.new ex_bytes.now))
         (done_says result.answer) }
 {
     if packet_store::too_short(on_chip.size, on_bytes, external.size, ex_bytes) {
-        return PacketReturned {
-            answer: PacketAnswer::Refused(PacketRefusal::StoreTooShort),
-            on_chip,
-            external,
+        return Outcome {
+            answer: Err(PacketRefusal::StoreTooShort),
+            left: Both { on_chip, external },
         };
     }
     let span = packet.span;
-    let store = packet.store;
-    match store {
+    // an arm for each store: one struct of all that a store lends would want a ghost name for each `&mut` in it in every contract
+    match packet.store {
         Store::OnChip => {
             let returned = giving::free(
                 on_chip,
@@ -77,12 +56,12 @@ pub fn hand_back(
                 on_nodes,
                 on_free_nodes,
             );
-            let answer = returned.answer;
-            let totals = returned.totals;
-            PacketReturned {
-                answer: answered(answer),
-                on_chip: totals,
-                external,
+            Outcome {
+                answer: packets::of_store(returned.answer),
+                left: Both {
+                    on_chip: returned.totals,
+                    external,
+                },
             }
         }
         Store::External => {
@@ -94,12 +73,12 @@ pub fn hand_back(
                 ex_nodes,
                 ex_free_nodes,
             );
-            let answer = returned.answer;
-            let totals = returned.totals;
-            PacketReturned {
-                answer: answered(answer),
-                on_chip,
-                external: totals,
+            Outcome {
+                answer: packets::of_store(returned.answer),
+                left: Both {
+                    on_chip,
+                    external: returned.totals,
+                },
             }
         }
     }

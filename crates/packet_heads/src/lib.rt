@@ -14,18 +14,11 @@ ghost use Rattle.packets.specs.Promise.{PacketPromise, PacketSetup};
 ghost use Rattle.packet_heads.specs.HeadStores.{head_store};
 
 use offset_allocator::head::Head;
-use packets::{Packet, PacketAnswer, PacketGrant};
+use packets::{Both, Outcome, Packet};
 use records::totals::Totals;
 use small_float::Size;
 
-// What a setup of one store answered, and its head: one of zeros where it is refused.
-#[derive(Clone, Copy)]
-pub struct HeadStarted {
-    pub answer: PacketAnswer,
-    pub head: Head,
-}
-
-// A store of this size and with this many records, beside the other one; the same for either store.
+// A store of this size and with this many records, beside the other one; the same for either store. Refused, what is left is a head of zeros.
 pub fn set_up(
     size: Size,
     max_allocs: u32,
@@ -34,11 +27,11 @@ pub fn set_up(
     bytes: &[u8],
     beside: Totals,
     bytes_beside: &[u8],
-) -> HeadStarted
+) -> Outcome<(), Head>
     ensures { (s : Store) (t : Totals) (heads leaves others-nodes others-pile : List ℕ) → PacketSetup edition32 s size.0 max_allocs
         (placed s (store_of t (replicate 256 0) (replicate 32 0) nodes.old free_nodes.old bytes.now)
         (store_of beside heads leaves others-nodes others-pile bytes_beside.now))
-        (placed s (head_store result.head nodes.new free_nodes.new bytes.now)
+        (placed s (head_store result.left nodes.new free_nodes.new bytes.now)
         (store_of beside heads leaves others-nodes others-pile bytes_beside.now))
         (done_says result.answer) }
 {
@@ -55,22 +48,14 @@ pub fn set_up(
         beside,
         bytes_beside,
     );
-    let answer = started.answer;
-    let totals = started.totals;
-    let head = Head {
-        totals,
-        bin_indices,
-        used_bins,
-    };
-    HeadStarted { answer, head }
-}
-
-// What a take answered, and both heads after it.
-#[derive(Clone, Copy)]
-pub struct HeadsTaken {
-    pub answer: PacketGrant,
-    pub on_chip: Head,
-    pub external: Head,
+    Outcome {
+        answer: started.answer,
+        left: Head {
+            totals: started.left,
+            bin_indices,
+            used_bins,
+        },
+    }
 }
 
 // A packet of this size with every byte of it marked as not heard, or the refusal of the last store tried.
@@ -84,59 +69,40 @@ pub fn take(
     ex_nodes: &mut [u32],
     ex_free_nodes: &[u32],
     ex_bytes: &mut [u8],
-) -> HeadsTaken
+) -> Outcome<Packet, Both<Head>>
     ensures { PacketPromise edition32 (Take (request_of size))
         (two (head_store on_chip on_nodes.old on_free_nodes.now on_bytes.old)
         (head_store external ex_nodes.old ex_free_nodes.now ex_bytes.old))
-        (two (head_store result.on_chip on_nodes.new on_free_nodes.now on_bytes.new)
-        (head_store result.external ex_nodes.new ex_free_nodes.now ex_bytes.new))
+        (two (head_store result.left.on_chip on_nodes.new on_free_nodes.now on_bytes.new)
+        (head_store result.left.external ex_nodes.new ex_free_nodes.now ex_bytes.new))
         (grant_says result.answer) }
 {
-    let mut on_bin_indices = on_chip.bin_indices;
-    let mut on_used_bins = on_chip.used_bins;
-    let on_totals = on_chip.totals;
-    let mut ex_bin_indices = external.bin_indices;
-    let mut ex_used_bins = external.used_bins;
-    let ex_totals = external.totals;
+    let mut on = on_chip;
+    let mut ex = external;
     let taken = packet_taking::take(
         size,
-        on_totals,
-        &mut on_bin_indices,
-        &mut on_used_bins,
+        on.totals,
+        &mut on.bin_indices,
+        &mut on.used_bins,
         on_nodes,
         on_free_nodes,
         on_bytes,
-        ex_totals,
-        &mut ex_bin_indices,
-        &mut ex_used_bins,
+        ex.totals,
+        &mut ex.bin_indices,
+        &mut ex.used_bins,
         ex_nodes,
         ex_free_nodes,
         ex_bytes,
     );
-    let answer = taken.answer;
-    let on_left = taken.on_chip;
-    let ex_left = taken.external;
-    HeadsTaken {
-        answer,
-        on_chip: Head {
-            totals: on_left,
-            bin_indices: on_bin_indices,
-            used_bins: on_used_bins,
-        },
-        external: Head {
-            totals: ex_left,
-            bin_indices: ex_bin_indices,
-            used_bins: ex_used_bins,
+    on.totals = taken.left.on_chip;
+    ex.totals = taken.left.external;
+    Outcome {
+        answer: taken.answer,
+        left: Both {
+            on_chip: on,
+            external: ex,
         },
     }
-}
-
-// What a hand-back answered, and both heads after it.
-#[derive(Clone, Copy)]
-pub struct HeadsReturned {
-    pub answer: PacketAnswer,
-    pub on_chip: Head,
-    pub external: Head,
 }
 
 // The packet's span goes back to its store, or why not.
@@ -150,49 +116,38 @@ pub fn hand_back(
     ex_nodes: &mut [u32],
     ex_free_nodes: &mut [u32],
     ex_bytes: &[u8],
-) -> HeadsReturned
+) -> Outcome<(), Both<Head>>
     ensures { PacketPromise edition32 (HandBack packet.store (token_of packet.span))
         (two (head_store on_chip on_nodes.old on_free_nodes.old on_bytes.now)
         (head_store external ex_nodes.old ex_free_nodes.old ex_bytes.now))
-        (two (head_store result.on_chip on_nodes.new on_free_nodes.new on_bytes.now)
-        (head_store result.external ex_nodes.new ex_free_nodes.new ex_bytes.now))
+        (two (head_store result.left.on_chip on_nodes.new on_free_nodes.new on_bytes.now)
+        (head_store result.left.external ex_nodes.new ex_free_nodes.new ex_bytes.now))
         (done_says result.answer) }
 {
-    let mut on_bin_indices = on_chip.bin_indices;
-    let mut on_used_bins = on_chip.used_bins;
-    let on_totals = on_chip.totals;
-    let mut ex_bin_indices = external.bin_indices;
-    let mut ex_used_bins = external.used_bins;
-    let ex_totals = external.totals;
+    let mut on = on_chip;
+    let mut ex = external;
     let returned = packet_giving::hand_back(
         packet,
-        on_totals,
-        &mut on_bin_indices,
-        &mut on_used_bins,
+        on.totals,
+        &mut on.bin_indices,
+        &mut on.used_bins,
         on_nodes,
         on_free_nodes,
         on_bytes,
-        ex_totals,
-        &mut ex_bin_indices,
-        &mut ex_used_bins,
+        ex.totals,
+        &mut ex.bin_indices,
+        &mut ex.used_bins,
         ex_nodes,
         ex_free_nodes,
         ex_bytes,
     );
-    let answer = returned.answer;
-    let on_left = returned.on_chip;
-    let ex_left = returned.external;
-    HeadsReturned {
-        answer,
-        on_chip: Head {
-            totals: on_left,
-            bin_indices: on_bin_indices,
-            used_bins: on_used_bins,
-        },
-        external: Head {
-            totals: ex_left,
-            bin_indices: ex_bin_indices,
-            used_bins: ex_used_bins,
+    on.totals = returned.left.on_chip;
+    ex.totals = returned.left.external;
+    Outcome {
+        answer: returned.answer,
+        left: Both {
+            on_chip: on,
+            external: ex,
         },
     }
 }

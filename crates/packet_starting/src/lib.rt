@@ -2,7 +2,6 @@
 #![tactic(auto)]
 
 ghost use Rattle.std.specs.Prelude.{◌≡◌, List, ℕ};
-ghost use Rattle.answers.specs.Answers.{start_says};
 ghost use Rattle.tables.specs.Calls.{edition32};
 ghost use Rattle.records.specs.declared.totals.Totals.{Totals};
 ghost use Rattle.packets.specs.declared.Store.{Store};
@@ -13,27 +12,10 @@ ghost use Rattle.records.specs.InWords.{zero_totals};
 ghost use Rattle.packets.specs.Answers.{why_number, done_says};
 ghost use Rattle.packets.specs.Promise.{PacketSetup, PacketSetupBoth};
 
-use answers::{Refusal, StartAnswer};
-use packets::{PacketAnswer, PacketRefusal};
-use records::gate::Gate;
+use answers::Refusal;
+use packets::{Both, Outcome, PacketRefusal};
 use records::totals::Totals;
 use small_float::Size;
-
-// What a setup of one store answered, and the scalars of its head after it.
-#[derive(Clone, Copy)]
-pub struct PacketStarted {
-    pub answer: PacketAnswer,
-    pub totals: Totals,
-}
-
-fn answered(answer: StartAnswer) -> PacketAnswer
-    ensures { done_says result ≡ plain (start_says answer) }
-{
-    match answer {
-        StartAnswer::Done => PacketAnswer::Done,
-        StartAnswer::Refused(why) => PacketAnswer::Refused(PacketRefusal::OfStore(why)),
-    }
-}
 
 // A store of this size and with this many records, beside the other one, of which the head's scalars and the bytes are asked for: 9 looks at both stores.
 // It is the same for either store. Refused, the scalars are zeros, as of no store.
@@ -47,20 +29,20 @@ pub fn set_up(
     bytes: &[u8],
     beside: Totals,
     bytes_beside: &[u8],
-) -> PacketStarted
+) -> Outcome<(), Totals>
     ensures { (s : Store) (t : Totals) (heads leaves others-nodes others-pile : List ℕ) → PacketSetup edition32 s size.0 max_allocs
         (placed s (store_of t bin_indices.old used_bins.old nodes.old free_nodes.old
         bytes.now)
         (store_of beside heads leaves others-nodes others-pile bytes_beside.now))
-        (placed s (store_of result.totals bin_indices.new used_bins.new nodes.new free_nodes.new
+        (placed s (store_of result.left bin_indices.new used_bins.new nodes.new free_nodes.new
         bytes.now)
         (store_of beside heads leaves others-nodes others-pile bytes_beside.now))
         (done_says result.answer) }
 {
     if packet_store::too_short(size.0, bytes, beside.size, bytes_beside) {
-        return PacketStarted {
-            answer: PacketAnswer::Refused(PacketRefusal::StoreTooShort),
-            totals: Totals::zeros(),
+        return Outcome {
+            answer: Err(PacketRefusal::StoreTooShort),
+            left: Totals::zeros(),
         };
     }
     let started = starting::with_max_allocs(
@@ -71,30 +53,22 @@ pub fn set_up(
         nodes,
         free_nodes,
     );
-    let given = started.answer;
-    let totals = started.totals;
-    PacketStarted {
-        answer: answered(given),
-        totals,
+    Outcome {
+        answer: packets::of_store(started.answer),
+        left: started.totals,
     }
 }
 
-// What a setup of both answered, and the scalars of both heads after it.
-#[derive(Clone, Copy)]
-pub struct BothStarted {
-    pub answer: PacketAnswer,
-    pub on_chip: Totals,
-    pub external: Totals,
-}
-
 // A refused setup of both leaves no store.
-fn neither(why: PacketRefusal) -> BothStarted
-    ensures { (done_says result.answer ≡ plain (refused (why_number why))) × (result.on_chip ≡ zero_totals) × (result.external ≡ zero_totals) }
+fn neither(why: PacketRefusal) -> Outcome<(), Both<Totals>>
+    ensures { (done_says result.answer ≡ plain (refused (why_number why))) × (result.left.on_chip ≡ zero_totals) × (result.left.external ≡ zero_totals) }
 {
-    BothStarted {
-        answer: PacketAnswer::Refused(why),
-        on_chip: Totals::zeros(),
-        external: Totals::zeros(),
+    Outcome {
+        answer: Err(why),
+        left: Both {
+            on_chip: Totals::zeros(),
+            external: Totals::zeros(),
+        },
     }
 }
 
@@ -114,15 +88,15 @@ pub fn set_up_both(
     ex_nodes: &mut [u32],
     ex_free_nodes: &mut [u32],
     ex_bytes: &[u8],
-) -> BothStarted
+) -> Outcome<(), Both<Totals>>
     ensures { (on ex : Totals) → PacketSetupBoth edition32 on_size.0 on_max_allocs ex_size.0 ex_max_allocs
         (two (store_of on on_bin_indices.old on_used_bins.old on_nodes.old
         on_free_nodes.old on_bytes.now)
         (store_of ex ex_bin_indices.old ex_used_bins.old ex_nodes.old
         ex_free_nodes.old ex_bytes.now))
-        (two (store_of result.on_chip on_bin_indices.new on_used_bins.new on_nodes.new
+        (two (store_of result.left.on_chip on_bin_indices.new on_used_bins.new on_nodes.new
         on_free_nodes.new on_bytes.now)
-        (store_of result.external ex_bin_indices.new ex_used_bins.new ex_nodes.new
+        (store_of result.left.external ex_bin_indices.new ex_used_bins.new ex_nodes.new
         ex_free_nodes.new ex_bytes.now))
         (done_says result.answer) }
 {
@@ -130,15 +104,15 @@ pub fn set_up_both(
         return neither(PacketRefusal::StoreTooShort);
     }
     match records::gate::test(on_max_allocs, on_nodes, on_free_nodes, Refusal::BadCount) {
-        Gate::Shut(why) => neither(PacketRefusal::OfStore(why)),
-        Gate::Open => match records::gate::test(
+        Err(why) => neither(PacketRefusal::OfStore(why)),
+        Ok(()) => match records::gate::test(
             ex_max_allocs,
             ex_nodes,
             ex_free_nodes,
             Refusal::BadCount,
         ) {
-            Gate::Shut(why) => neither(PacketRefusal::OfStore(why)),
-            Gate::Open => {
+            Err(why) => neither(PacketRefusal::OfStore(why)),
+            Ok(()) => {
                 let on_started = starting::with_max_allocs(
                     on_size,
                     on_max_allocs,
@@ -155,12 +129,12 @@ pub fn set_up_both(
                     ex_nodes,
                     ex_free_nodes,
                 );
-                let on_chip = on_started.totals;
-                let external = ex_started.totals;
-                BothStarted {
-                    answer: PacketAnswer::Done,
-                    on_chip,
-                    external,
+                Outcome {
+                    answer: Ok(()),
+                    left: Both {
+                        on_chip: on_started.totals,
+                        external: ex_started.totals,
+                    },
                 }
             }
         },

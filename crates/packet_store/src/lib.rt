@@ -12,31 +12,28 @@ ghost use Rattle.packets.specs.OneStore.{fresh_bytes, inside_size, filled_by, ta
 ghost use Rattle.packets.specs.Calls.{plainly};
 ghost use Rattle.packets.specs.Answers.{done_says};
 
-use answers::{Allocation, Refusal, SizeAnswer, TakeAnswer};
-use packets::{PacketAnswer, PacketRefusal};
+use answers::{Allocation, Refusal};
+use packets::PacketRefusal;
+use records::answered::Answered;
 use records::totals::Totals;
 use small_float::Size;
-use taking::Taken;
 
 // Whether either store is shorter in bytes than this size of its allocator: refusal 9, before anything else in every call.
 pub fn too_short(on_size: u32, on_bytes: &[u8], ex_size: u32, ex_bytes: &[u8]) -> bool
     ensures value { result ≡ (ltb (length on_bytes.now) on_size || ltb (length ex_bytes.now) ex_size) }
     ensures on_size_bound { (on_size < 2 ^ 32) × (ex_size < 2 ^ 32) }
 {
-    if on_bytes.len() < on_size as usize {
-        return true;
-    }
-    ex_bytes.len() < ex_size as usize
+    on_bytes.len() < on_size as usize || ex_bytes.len() < ex_size as usize
 }
 
 // Every byte of a fresh grant is set to 255; nothing else is touched, and where nothing was granted nothing at all.
-fn mark_grant(answer: TakeAnswer, size: Size, bytes: &mut [u8])
+fn mark_grant(answer: Result<Allocation, Refusal>, size: Size, bytes: &mut [u8])
     requires { (o r : ℕ) → take_says answer ≡ granted o r → o + size.0 ≤ length bytes.old }
     ensures { bytes.new ≡ fresh_bytes (take_says answer) size.0 bytes.old }
 {
     match answer {
-        TakeAnswer::Granted(span) => parts::mark(bytes, span.offset, size.0),
-        TakeAnswer::Refused(_) => {}
+        Ok(span) => parts::mark(bytes, span.offset, size.0),
+        Err(_) => {}
     }
 }
 
@@ -49,7 +46,7 @@ pub fn take(
     nodes: &mut [u32],
     free_nodes: &[u32],
     bytes: &mut [u8],
-) -> Taken
+) -> Answered<Allocation>
     requires { t.size ≤ length bytes.old }
     ensures { (
       take_says result.answer,
@@ -66,14 +63,14 @@ pub fn take(
 }
 
 // A length that the words tell, or 6 where from this offset it would pass the size.
-fn inside(size: u32, offset: u32, n: Size) -> SizeAnswer
+fn inside(size: u32, offset: u32, n: Size) -> Result<Size, Refusal>
     ensures { size_says result ≡ inside_size size offset (length_is n.0) }
 {
-    let end = (offset as usize) + (n.0 as usize);
+    let end = offset as usize + n.0 as usize;
     if (size as usize) < end {
-        return SizeAnswer::Refused(Refusal::Unsound);
+        return Err(Refusal::Unsound);
     }
-    SizeAnswer::Length(n)
+    Ok(n)
 }
 
 // The length of a packet in this store; whatever the words say, no packet passes the store's size.
@@ -84,27 +81,25 @@ pub fn length_of(
     used_bins: &[u8; 32],
     nodes: &[u32],
     free_nodes: &[u32],
-) -> SizeAnswer
+) -> Result<Size, Refusal>
     ensures { (bytes : List ℕ) → size_says result ≡ length_in edition32 (token_of span)
         (store_of t bin_indices.now used_bins.now nodes.now free_nodes.now bytes) }
 {
-    match asking::allocation_size(t, span, bin_indices, used_bins, nodes, free_nodes) {
-        SizeAnswer::Refused(why) => SizeAnswer::Refused(why),
-        SizeAnswer::Length(n) => inside(t.size, span.offset, n),
-    }
+    let n = asking::allocation_size(t, span, bin_indices, used_bins, nodes, free_nodes)?;
+    inside(t.size, span.offset, n)
 }
 
 // More bytes than the packet holds is 17, and nothing is written; fewer fill its front.
-fn fill_part(offset: u32, n: Size, new: &[u8], bytes: &mut [u8]) -> PacketAnswer
+fn fill_part(offset: u32, n: Size, new: &[u8], bytes: &mut [u8]) -> Result<(), PacketRefusal>
     requires { offset + n.0 ≤ length bytes.old }
     ensures { (done_says result, bytes.new) ≡ plainly (filled_by (length_is n.0) offset new.now bytes.old) }
 {
     let len = n.0;
     if (len as usize) < new.len() {
-        return PacketAnswer::Refused(PacketRefusal::TooManyBytes);
+        return Err(PacketRefusal::TooManyBytes);
     }
     parts::fill(bytes, offset, len, new);
-    PacketAnswer::Done
+    Ok(())
 }
 
 // The packet's own bytes are lent on to be written, or why not.
@@ -117,7 +112,7 @@ pub fn fill(
     nodes: &[u32],
     free_nodes: &[u32],
     bytes: &mut [u8],
-) -> PacketAnswer
+) -> Result<(), PacketRefusal>
     requires { t.size ≤ length bytes.old }
     ensures { (
       done_says result,
@@ -127,10 +122,8 @@ pub fn fill(
         ≡ plainly (fill_in edition32 (token_of span) new.now
         (store_of t bin_indices.now used_bins.now nodes.now free_nodes.now bytes.old)) }
 {
-    match length_of(t, span, bin_indices, used_bins, nodes, free_nodes) {
-        SizeAnswer::Refused(why) => PacketAnswer::Refused(PacketRefusal::OfStore(why)),
-        SizeAnswer::Length(n) => fill_part(span.offset, n, new, bytes),
-    }
+    let n = length_of(t, span, bin_indices, used_bins, nodes, free_nodes)?;
+    fill_part(span.offset, n, new, bytes)
 }
 
 // The packet's own bytes, lent to be read; none where the call for its length is refused.
@@ -148,7 +141,7 @@ pub fn read<'a>(
         (store_of t bin_indices.now used_bins.now nodes.now free_nodes.now bytes.now) }
 {
     match length_of(t, span, bin_indices, used_bins, nodes, free_nodes) {
-        SizeAnswer::Refused(_) => parts::no_part(bytes),
-        SizeAnswer::Length(n) => parts::part(bytes, span.offset, n.0),
+        Err(_) => parts::no_part(bytes),
+        Ok(n) => parts::part(bytes, span.offset, n.0),
     }
 }

@@ -12,54 +12,32 @@ ghost use Rattle.packets.specs.Calls.{Take, packet, goes_on, from_external, exte
 ghost use Rattle.packets.specs.Answers.{grant_says};
 ghost use Rattle.packets.specs.Promise.{PacketPromise};
 
-use answers::{Allocation, Refusal, TakeAnswer};
-use packets::{Packet, PacketGrant, PacketRefusal, Store};
+use answers::{Allocation, Refusal};
+use packets::{Both, Outcome, Packet, PacketRefusal, Store};
 use records::totals::Totals;
 use small_float::Size;
-
-// What a take answered, and the scalars of both heads after it.
-#[derive(Clone, Copy)]
-pub struct PacketTaken {
-    pub answer: PacketGrant,
-    pub on_chip: Totals,
-    pub external: Totals,
-}
-
-// The layer's answer, and the scalars of the external store's head, whether it was tried or not.
-#[derive(Clone, Copy)]
-struct Tried {
-    answer: PacketGrant,
-    external: Totals,
-}
 
 // A refusal after which the external store is tried.
 fn goes_on(why: Refusal) -> bool
     ensures { result ≡ goes_on (number_of why) }
 {
-    let number = why.number();
-    if number == 3 {
-        return true;
-    }
-    number == 4
-}
-
-fn grant(store: Store, span: Allocation) -> PacketGrant
-    ensures { grant_says result ≡ packet store span.offset span.metadata.0 }
-{
-    PacketGrant::Granted(Packet { store, span })
+    matches!(why, Refusal::NoSpareRecord | Refusal::NoRegion)
 }
 
 // What the take on the external store answered is the answer.
-fn from_external(answer: TakeAnswer) -> PacketGrant
+fn from_external(answer: Result<Allocation, Refusal>) -> Result<Packet, PacketRefusal>
     ensures { grant_says result ≡ from_external (take_says answer) }
 {
     match answer {
-        TakeAnswer::Granted(span) => grant(Store::External, span),
-        TakeAnswer::Refused(why) => PacketGrant::Refused(PacketRefusal::OfStore(why)),
+        Ok(span) => Ok(Packet {
+            store: Store::External,
+            span,
+        }),
+        Err(why) => Err(PacketRefusal::from(why)),
     }
 }
 
-// The external store is tried.
+// The external store is tried: the layer's answer, and what is left of that store's head.
 fn try_external(
     size: Size,
     external: Totals,
@@ -68,11 +46,11 @@ fn try_external(
     ex_nodes: &mut [u32],
     ex_free_nodes: &[u32],
     ex_bytes: &mut [u8],
-) -> Tried
+) -> Outcome<Packet, Totals>
     requires { external.size ≤ length ex_bytes.old }
     ensures { (
       grant_says result.answer,
-      (store_of result.external ex_bin_indices.new ex_used_bins.new ex_nodes.new
+      (store_of result.left ex_bin_indices.new ex_used_bins.new ex_nodes.new
           ex_free_nodes.now ex_bytes.new),
     )
         ≡ externally (take_in edition32 (request_of size)
@@ -88,17 +66,15 @@ fn try_external(
         ex_free_nodes,
         ex_bytes,
     );
-    let given = second.answer;
-    let totals = second.totals;
-    Tried {
-        answer: from_external(given),
-        external: totals,
+    Outcome {
+        answer: from_external(second.answer),
+        left: second.totals,
     }
 }
 
 // By what the on-chip store answered: a grant is the answer, and so is a refusal after which the external store is not tried.
 fn after_first(
-    first: TakeAnswer,
+    first: Result<Allocation, Refusal>,
     size: Size,
     external: Totals,
     ex_bin_indices: &mut [u32; 256],
@@ -106,11 +82,11 @@ fn after_first(
     ex_nodes: &mut [u32],
     ex_free_nodes: &[u32],
     ex_bytes: &mut [u8],
-) -> Tried
+) -> Outcome<Packet, Totals>
     requires { external.size ≤ length ex_bytes.old }
     ensures { (left : Kept) → (
       grant_says result.answer,
-      two left (store_of result.external ex_bin_indices.new ex_used_bins.new ex_nodes.new
+      two left (store_of result.left ex_bin_indices.new ex_used_bins.new ex_nodes.new
           ex_free_nodes.now ex_bytes.new),
     )
         ≡ after_first (take_says first) left (store_of external ex_bin_indices.old ex_used_bins.old ex_nodes.old
@@ -119,11 +95,14 @@ fn after_first(
         ex_free_nodes.now ex_bytes.old)) }
 {
     match first {
-        TakeAnswer::Granted(span) => Tried {
-            answer: grant(Store::OnChip, span),
-            external,
+        Ok(span) => Outcome {
+            answer: Ok(Packet {
+                store: Store::OnChip,
+                span,
+            }),
+            left: external,
         },
-        TakeAnswer::Refused(why) => {
+        Err(why) => {
             if goes_on(why) {
                 return try_external(
                     size,
@@ -135,9 +114,9 @@ fn after_first(
                     ex_bytes,
                 );
             }
-            Tried {
-                answer: PacketGrant::Refused(PacketRefusal::OfStore(why)),
-                external,
+            Outcome {
+                answer: Err(PacketRefusal::from(why)),
+                left: external,
             }
         }
     }
@@ -158,23 +137,22 @@ pub fn take(
     ex_nodes: &mut [u32],
     ex_free_nodes: &[u32],
     ex_bytes: &mut [u8],
-) -> PacketTaken
+) -> Outcome<Packet, Both<Totals>>
     ensures { PacketPromise edition32 (Take (request_of size))
         (two (store_of on_chip on_bin_indices.old on_used_bins.old on_nodes.old
         on_free_nodes.now on_bytes.old)
         (store_of external ex_bin_indices.old ex_used_bins.old ex_nodes.old
         ex_free_nodes.now ex_bytes.old))
-        (two (store_of result.on_chip on_bin_indices.new on_used_bins.new on_nodes.new
+        (two (store_of result.left.on_chip on_bin_indices.new on_used_bins.new on_nodes.new
         on_free_nodes.now on_bytes.new)
-        (store_of result.external ex_bin_indices.new ex_used_bins.new ex_nodes.new
+        (store_of result.left.external ex_bin_indices.new ex_used_bins.new ex_nodes.new
         ex_free_nodes.now ex_bytes.new))
         (grant_says result.answer) }
 {
     if packet_store::too_short(on_chip.size, on_bytes, external.size, ex_bytes) {
-        return PacketTaken {
-            answer: PacketGrant::Refused(PacketRefusal::StoreTooShort),
-            on_chip,
-            external,
+        return Outcome {
+            answer: Err(PacketRefusal::StoreTooShort),
+            left: Both { on_chip, external },
         };
     }
     let first = packet_store::take(
@@ -186,10 +164,8 @@ pub fn take(
         on_free_nodes,
         on_bytes,
     );
-    let given = first.answer;
-    let totals = first.totals;
     let tried = after_first(
-        given,
+        first.answer,
         size,
         external,
         ex_bin_indices,
@@ -198,11 +174,11 @@ pub fn take(
         ex_free_nodes,
         ex_bytes,
     );
-    let answer = tried.answer;
-    let left = tried.external;
-    PacketTaken {
-        answer,
-        on_chip: totals,
-        external: left,
+    Outcome {
+        answer: tried.answer,
+        left: Both {
+            on_chip: first.totals,
+            external: tried.left,
+        },
     }
 }

@@ -12,16 +12,16 @@
 //   l STORE OFFSET RECORD    length
 //   q STORE                  report
 //   a STORE                  audit
-use crate::lines;
-use answers::{Allocation, Handle};
+use crate::lines::Line;
 use driving::rows;
 use oracle_lists::rows::Reader;
 use packet_copies::making::Asked;
 use packet_copies::questions::Question;
 use packet_copies::setting_up::Wanted;
-use packet_copies::sides::Sides;
+use packet_copies::sides::{Side, Sides};
 use packet_copies::{making, sides};
-use packets::{Packet, Store};
+use packets::{Both, Packet, Store};
+use std::io;
 
 // More rows than the list has.
 const MOST: u32 = 2000;
@@ -33,56 +33,34 @@ enum Row {
     Anew,
     Lend(u32, u32),
     Count(Store, u32),
-    Nothing,
-}
-
-// Both stores, and how many bytes wait to be printed.
-#[derive(Clone, Copy)]
-struct Cases {
-    sides: Sides,
-    waiting: usize,
 }
 
 fn no_stores() -> Sides {
-    Sides {
+    Both {
         on_chip: sides::no_store(64),
         external: sides::no_store(64),
     }
 }
 
-fn store(n: u32) -> Store {
-    if n == 0 {
-        return Store::OnChip;
-    }
-    Store::External
-}
-
-fn packet(n: u32, offset: u32, record: u32) -> Packet {
-    Packet {
-        store: store(n),
-        span: Allocation {
-            offset,
-            metadata: Handle(record),
-        },
-    }
+fn packet(store: u32, offset: u32, record: u32) -> Packet {
+    Packet::named(Store::from(store), offset, record)
 }
 
 // A row of three numbers: a call that names a packet, or a setup.
-fn of_three(row: Reader) -> Row {
-    let letter = row.letter;
-    match letter {
-        b's' => Row::Call(Asked::SetUp(store(row.b), row.c, row.d)),
-        b'h' => Row::Call(Asked::HandBack(packet(row.b, row.c, row.d))),
-        b'r' => Row::Call(Asked::Ask(Question::Read(packet(row.b, row.c, row.d)))),
-        b'l' => Row::Call(Asked::Ask(Question::Length(packet(row.b, row.c, row.d)))),
-        _ => Row::Nothing,
-    }
+fn of_three(row: Reader) -> Option<Row> {
+    let asked = match row.letter {
+        b's' => Asked::SetUp(Store::from(row.b), row.c, row.d),
+        b'h' => Asked::HandBack(packet(row.b, row.c, row.d)),
+        b'r' => Asked::Ask(Question::Read(packet(row.b, row.c, row.d))),
+        b'l' => Asked::Ask(Question::Length(packet(row.b, row.c, row.d))),
+        _ => return None,
+    };
+    Some(Row::Call(asked))
 }
 
-fn of_four(row: Reader, number: u32) -> Row {
-    let letter = row.letter;
-    match letter {
-        b'd' => Row::Call(Asked::SetUpBoth(
+fn of_four(row: Reader, number: u32) -> Option<Row> {
+    let asked = match row.letter {
+        b'd' => Asked::SetUpBoth(
             Wanted {
                 size: row.a,
                 max_allocs: row.b,
@@ -91,98 +69,87 @@ fn of_four(row: Reader, number: u32) -> Row {
                 size: row.c,
                 max_allocs: row.d,
             },
-        )),
-        b'f' => Row::Call(Asked::Fill(packet(row.a, row.b, row.c), row.d, (number % 256) as u8)),
-        _ => Row::Nothing,
+        ),
+        b'f' => {
+            let first = (number % 256) as u8;
+            Asked::Fill(packet(row.a, row.b, row.c), row.d as usize, first)
+        }
+        _ => return None,
+    };
+    Some(Row::Call(asked))
+}
+
+fn of_one_or_two(row: Reader) -> Option<Row> {
+    match row.letter {
+        b'b' => Some(Row::Lend(row.c, row.d)),
+        b'c' => Some(Row::Count(Store::from(row.c), row.d)),
+        b't' => Some(Row::Call(Asked::Take(row.d))),
+        b'q' => Some(Row::Call(Asked::Ask(Question::Report(Store::from(row.d))))),
+        b'a' => Some(Row::Call(Asked::Ask(Question::Audit(Store::from(row.d))))),
+        _ => None,
     }
 }
 
-fn of_one_or_two(row: Reader) -> Row {
-    let letter = row.letter;
-    match letter {
-        b'b' => Row::Lend(row.c, row.d),
-        b'c' => Row::Count(store(row.c), row.d),
-        b't' => Row::Call(Asked::Take(row.d)),
-        b'q' => Row::Call(Asked::Ask(Question::Report(store(row.d)))),
-        b'a' => Row::Call(Asked::Ask(Question::Audit(store(row.d)))),
-        _ => Row::Nothing,
-    }
-}
-
-fn asked(row: Reader, number: u32) -> Row {
-    let fields = row.fields;
-    match fields {
-        0 => Row::Anew,
+// What a row asks for; nothing, where its letter is none of these.
+fn asked(row: Reader, number: u32) -> Option<Row> {
+    match row.fields {
+        0 => Some(Row::Anew),
         1 | 2 => of_one_or_two(row),
         3 => of_three(row),
         _ => of_four(row, number),
     }
 }
 
-fn with_sides(cases: Cases, sides: Sides) -> Cases {
-    Cases {
-        sides,
-        waiting: cases.waiting,
-    }
-}
-
 fn lend(before: Sides, on: u32, ex: u32) -> Sides {
-    let on_chip = before.on_chip;
-    let external = before.external;
-    Sides {
-        on_chip: sides::with_lent(on_chip, on),
-        external: sides::with_lent(external, ex),
+    Both {
+        on_chip: Side {
+            lent: on as usize,
+            ..before.on_chip
+        },
+        external: Side {
+            lent: ex as usize,
+            ..before.external
+        },
     }
 }
 
 fn with_count(before: Sides, store: Store, count: u32) -> Sides {
-    let meant = sides::at(store, before);
-    let words = meant.words;
-    let totals = words.totals;
-    let spoiled = sides::with_totals(meant, totals.with_max_allocs(count));
-    sides::put(store, spoiled, before)
+    let mut spoiled = before.at(store);
+    spoiled.head.totals.max_allocs = count;
+    before.with(store, spoiled)
 }
 
-fn call(cases: Cases, asked: Asked, out: &mut [u8; 65536]) -> Cases {
-    let before = cases.sides;
+// The call is made and its line printed; both stores after it.
+fn call(rt: &impl Print, before: Sides, asked: Asked) -> io::Result<Sides> {
     let made = making::make(asked, before);
-    let after = made.after;
-    Cases {
-        sides: after,
-        waiting: lines::line(cases.waiting, before, made, out),
-    }
+    let line = Line {
+        before: &before,
+        made: &made,
+    };
+    println!(rt; "{line}")?;
+    Ok(made.after)
 }
 
-fn step(cases: Cases, row: Row, out: &mut [u8; 65536]) -> Cases {
-    let before = cases.sides;
+fn step(rt: &impl Print, before: Sides, row: Row) -> io::Result<Sides> {
     match row {
-        Row::Call(asked) => call(cases, asked, out),
-        Row::Anew => with_sides(cases, no_stores()),
-        Row::Lend(on, ex) => with_sides(cases, lend(before, on, ex)),
-        Row::Count(store, count) => with_sides(cases, with_count(before, store, count)),
-        Row::Nothing => cases,
+        Row::Call(asked) => call(rt, before, asked),
+        Row::Anew => Ok(no_stores()),
+        Row::Lend(on, ex) => Ok(lend(before, on, ex)),
+        Row::Count(store, count) => Ok(with_count(before, store, count)),
     }
 }
 
 // Every row to the end of the list.
-fn all(out: &mut [u8; 65536]) -> Cases {
-    let mut cases = Cases {
-        sides: no_stores(),
-        waiting: 0,
-    };
-    let mut number = 0u32;
-    while number < MOST {
-        number += 1;
+pub fn print(rt: &impl Print) -> io::Result<()> {
+    let mut sides = no_stores();
+    for number in 1..=MOST {
         let row = rows::next();
         if !row.is_whole() {
-            return cases;
+            break;
         }
-        cases = step(cases, asked(row, number), out);
+        if let Some(asked) = asked(row, number) {
+            sides = step(rt, sides, asked)?;
+        }
     }
-    cases
-}
-
-pub fn print(out: &mut [u8; 65536]) {
-    let cases = all(out);
-    journal_lines::flush(cases.waiting, out);
+    Ok(())
 }

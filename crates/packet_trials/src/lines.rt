@@ -1,100 +1,87 @@
-// What came of a call, as a line. Each function takes how many bytes wait to be printed, and gives that number back.
-use journal_lines::{number, put};
+// What came of a call, as a line.
+use packet_copies::sides;
 use packet_copies::sides::{Side, Sides};
 use packet_copies::told::{Made, Told};
-use packets::{Packet, Store};
+use std::fmt;
 
-fn digit(value: u8) -> u8 {
-    let low = value % 16;
-    if low < 10 {
-        return b'0' + low;
-    }
-    b'a' + (low - 10)
-}
+// Bytes, two hexadecimal digits each.
+#[derive(Clone, Copy)]
+struct Hexadecimal<'a>(&'a [u8]);
 
-fn byte(waiting: usize, byte: u8, out: &mut [u8; 65536]) -> usize {
-    let pair = [digit(byte / 16), digit(byte)];
-    put(waiting, &pair, out)
-}
-
-fn hexadecimal(waiting: usize, bytes: &[u8], out: &mut [u8; 65536]) -> usize {
-    let mut many = waiting;
-    let mut i: usize = 0;
-    while i < bytes.len() {
-        let next = bytes[i];
-        i += 1;
-        many = byte(many, next, out);
-    }
-    many
-}
-
-// A number, and a space before it.
-fn figure(waiting: usize, n: u32, out: &mut [u8; 65536]) -> usize {
-    let spaced = put(waiting, b" ", out);
-    number(spaced, n as u64, out)
-}
-
-// The bytes of one store, a space before them.
-fn bytes_of(waiting: usize, before: Side, after: Side, out: &mut [u8; 65536]) -> usize {
-    let old = before.bytes;
-    let new = after.bytes;
-    if check::same(&old, &new) {
-        return put(waiting, b" =", out);
-    }
-    let spaced = put(waiting, b" ", out);
-    hexadecimal(spaced, &new, out)
-}
-
-fn store_number(store: Store) -> u32 {
-    match store {
-        Store::OnChip => 0,
-        Store::External => 1,
-    }
-}
-
-fn packet(waiting: usize, packet: Packet, out: &mut [u8; 65536]) -> usize {
-    let store = packet.store;
-    let span = packet.span;
-    let handle = span.metadata;
-    let zero = put(waiting, b"0", out);
-    let placed = figure(zero, store_number(store), out);
-    let begun = figure(placed, span.offset, out);
-    figure(begun, handle.0, out)
-}
-
-// The bytes that a read showed, how many first.
-fn bytes_shown(waiting: usize, many: u32, shown: [u8; 64], out: &mut [u8; 65536]) -> usize {
-    let counted = number(waiting, many as u64, out);
-    if many == 0 {
-        return counted;
-    }
-    let spaced = put(counted, b" ", out);
-    hexadecimal(spaced, packet_copies::sides::lent(&shown, many), out)
-}
-
-fn answer(waiting: usize, made: Made, out: &mut [u8; 65536]) -> usize {
-    let told = made.told;
-    let shown = made.shown;
-    match told {
-        Told::Done => put(waiting, b"0", out),
-        Told::Granted(granted) => packet(waiting, granted, out),
-        Told::Length(n) => figure(put(waiting, b"0", out), n, out),
-        Told::Report(total, largest) => {
-            figure(figure(put(waiting, b"0", out), total, out), largest, out)
+impl<'a> fmt::Display for Hexadecimal<'a> {
+    fn fmt<W: fmt::Write>(&self, f: &mut fmt::Formatter<W>) -> fmt::Result {
+        for byte in self.0 {
+            write!(f, "{byte:02x}")?;
         }
-        Told::Shown(many) => bytes_shown(waiting, many, shown, out),
-        Told::Refused(why) => number(waiting, why as u64, out),
+        Ok(())
     }
 }
 
-pub fn line(waiting: usize, before: Sides, made: Made, out: &mut [u8; 65536]) -> usize {
-    let after = made.after;
-    let on_before = before.on_chip;
-    let on_after = after.on_chip;
-    let ex_before = before.external;
-    let ex_after = after.external;
-    let told = put(answer(waiting, made, out), b" |", out);
-    let on = bytes_of(told, on_before, on_after, out);
-    let ex = bytes_of(on, ex_before, ex_after, out);
-    put(ex, b"\n", out)
+// The bytes of one store after a call, or `=` where none of them changed.
+#[derive(Clone, Copy)]
+struct Change<'a> {
+    before: &'a Side,
+    after: &'a Side,
+}
+
+impl<'a> fmt::Display for Change<'a> {
+    fn fmt<W: fmt::Write>(&self, f: &mut fmt::Formatter<W>) -> fmt::Result {
+        if self.before.bytes == self.after.bytes {
+            return f.write_str("=");
+        }
+        write!(f, "{}", Hexadecimal(&self.after.bytes))
+    }
+}
+
+// The answer: 0 and what was given, the refusal's number, or how many bytes a read showed, and which.
+#[derive(Clone, Copy)]
+struct Answer<'a>(&'a Made);
+
+impl<'a> fmt::Display for Answer<'a> {
+    fn fmt<W: fmt::Write>(&self, f: &mut fmt::Formatter<W>) -> fmt::Result {
+        let made = self.0;
+        match made.told {
+            Ok(Told::Done) => f.write_str("0"),
+            Ok(Told::Granted(packet)) => {
+                let span = packet.span;
+                let store = u32::from(packet.store);
+                write!(f, "0 {store} {} {}", span.offset, span.metadata.0)
+            }
+            Ok(Told::Length(length)) => write!(f, "0 {}", length.0),
+            Ok(Told::Report(figures)) => {
+                let total = figures.total_free_space;
+                let largest = figures.largest_free_region;
+                write!(f, "0 {} {}", total.0, largest.0)
+            }
+            Ok(Told::Shown(0)) => f.write_str("0"),
+            Ok(Told::Shown(many)) => {
+                let shown = sides::lent(&made.shown, many);
+                write!(f, "{many} {}", Hexadecimal(shown))
+            }
+            Err(why) => write!(f, "{}", why.number()),
+        }
+    }
+}
+
+// The stores before a call, and what it answered and left.
+#[derive(Clone, Copy)]
+pub struct Line<'a> {
+    pub before: &'a Sides,
+    pub made: &'a Made,
+}
+
+impl<'a> fmt::Display for Line<'a> {
+    fn fmt<W: fmt::Write>(&self, f: &mut fmt::Formatter<W>) -> fmt::Result {
+        let before = self.before;
+        let after = &self.made.after;
+        let on_chip = Change {
+            before: &before.on_chip,
+            after: &after.on_chip,
+        };
+        let external = Change {
+            before: &before.external,
+            after: &after.external,
+        };
+        write!(f, "{} | {on_chip} {external}", Answer(self.made))
+    }
 }

@@ -5,7 +5,8 @@
 mod cases;
 mod lines;
 
-fn main() {
-    let mut out = [0u8; 65536];
-    cases::print(&mut out);
+use std::io;
+
+fn main(rt: HostRuntime) -> io::Result<()> {
+    cases::print(&rt)
 }

@@ -1,14 +1,14 @@
 -- What the walks over both stores go by: the promise of a call, from what became of the store that is named. Assumes nothing.
-use mathlib.Core.Path.{◌≡◌, sym, ap, subst, ◌∙◌}
-use mathlib.Core.Bool.{Bool, true, false, ◌||◌, cond}
-use mathlib.Core.Logic.{◌≢◌}
-use lib.Dec.{eqb}
-use borrow.Author.Tests.{eq-eqb, ne_eqb}
+use mathlib.Core.Path.{◌≡◌, refl, sym, ap, subst, ◌∙◌}
+use mathlib.Core.Bool.{Bool, true, false, cond}
 use mathlib.Core.List.{List, []}
 use Prim.Native.Nat.{ℕ}
+use Rattle.std.specs.Prelude.{Result, Ok, Err}
 use Rattle.basics.proofs.Clash.{clash}
 use Rattle.ledger.specs.Ledger.{Answer, refused}
 use Rattle.ledger.specs.Calls as ledger
+use Rattle.answers.specs.declared.Refusal.{Refusal}
+use Rattle.answers.specs.Answers as store
 use Rattle.tables.specs.Words.{Words, Edition}
 use Rattle.tables.specs.Calls.{answer_words}
 use Rattle.tables.specs.Promise.{Promise}
@@ -18,7 +18,8 @@ use Rattle.packets.specs.declared.Store.{Store}
 use Rattle.packets.specs.Stores.{Kept, Two, two, at, put, with_words}
 use Rattle.packets.specs.OneStore.{take_in, hand_back_in, length_in, fill_in, read_in}
 use Rattle.packets.specs.Calls.{PacketCall, Take, HandBack, Fill, Read, LengthOf, ReportOf, Answered, shows, plain, plainly}
-use Rattle.packets.specs.Calls.{too_short, nine, goes_on, from_external, externally, after_first, take_from, on, packet_words, audit_in}
+use Rattle.packets.specs.Calls.{too_short, nine, after_first, take_from, on, packet_words, audit_in}
+use Rattle.packets.specs.Answers.{says, from_store}
 use Rattle.packets.specs.Promise.{PacketPromise, PacketAudit}
 use Rattle.packets.proofs.Promised.{promised}
 
@@ -30,6 +31,12 @@ Says (Fill s span new) = Unit
 Says (Read s span) = ⊥
 Says (LengthOf s span) = Unit
 Says (ReportOf s) = Unit
+
+-- what an allocator answered, as the layer's answer
+pub says_from_store : {T : Type 0} (told : T → Answer) (a : Result T Refusal)
+    → says (λ x. plain (told x)) (from_store a) ≡ plain (store.says told a)
+says_from_store told (Ok x) = refl
+says_from_store told (Err why) = refl
 
 -- past the test for 9
 long_nine : (t : Two) (outcome : Answered × Two) → too_short t ≡ false → outcome ≡ nine (too_short t) t outcome
@@ -138,35 +145,9 @@ module _ (E : Edition) where
   }
 
   -- ---- a take, one store after the other
-  pub tried : (asked : ledger.Request) (k left : Kept) (a : Answer) (b : Answered) → (a, left) ≡ take_in E asked k → b ≡ from_external a
-      → ◌≡◌ {A = Answered × Kept} (b, left) (externally (take_in E asked k))
-  tried asked k left a b e f =
-      let so_far : ◌≡◌ {A = Answered × Kept} (b, left) (from_external a, left) = ap (λ (x : Answered). (x, left)) f in
-      so_far ∙ ap externally e
-
   pub taken_both : (asked : ledger.Request) (t : Two) (a : Answer) (b : Answered) (left beside : Kept) → too_short t ≡ false
       → (a, left) ≡ take_in E asked t.on_chip
       → (b, two left beside) ≡ after_first a left t.external (take_in E asked t.external) → PacketPromise E (Take asked) t (two left beside) b
   taken_both asked t a b left beside long e f =
       taken asked t (two left beside) b long
       (f ∙ ap (λ (x : Answer × Kept). after_first x.0 x.1 t.external (take_in E asked t.external)) e)
-
-pub went_there : (n : ℕ) (left beside : Kept) (second : Answer × Kept) (a : Answered) (after : Kept) → goes_on n ≡ true → (a, after) ≡ externally second
-    → ◌≡◌ {A = Answered × Two} (a, two left after) (after_first (refused n) left beside second)
-went_there n left beside second a after e f =
-    let so_far : ◌≡◌ {A = Answered × Two} (a, two left after) ((externally second).0, two left (externally second).1) =
-    ap (λ (x : Answered × Kept). (x.0, two left x.1)) f in
-    so_far
-    ∙ sym (ap (λ (b : Bool). cond {A = Answered × Two} b ((externally second).0, two left (externally second).1) (plain (refused n), two left beside)) e)
-
-pub stopped_here : (n : ℕ) (left beside : Kept) (second : Answer × Kept) → goes_on n ≡ false
-    → ◌≡◌ {A = Answered × Two} (plain (refused n), two left beside) (after_first (refused n) left beside second)
-stopped_here n left beside second e =
-    sym (ap (λ (b : Bool). cond {A = Answered × Two} b ((externally second).0, two left (externally second).1) (plain (refused n), two left beside)) e)
-
--- after which refusals it goes on
-pub goes_at_3 : (n m : ℕ) → n ≡ m → n ≡ 3 → true ≡ goes_on m
-goes_at_3 n m e f = sym (ap (λ (b : Bool). b || eqb m 4) (eq-eqb m 3 (sym e ∙ f)))
-
-pub goes_at_4 : (n m : ℕ) → n ≡ m → n ≢ 3 → eqb n 4 ≡ goes_on m
-goes_at_4 n m e f = ap (λ (k : ℕ). eqb k 4) e ∙ sym (ap (λ (b : Bool). b || eqb m 4) (ne_eqb m 3 (λ g. f (e ∙ g))))

@@ -1,28 +1,24 @@
 -- A refusal of the packet layer is known by its number, and an answer of the code by what it says. Assumes nothing.
 use mathlib.Core.Path.{◌≡◌, refl, sym, ap}
-use mathlib.Core.Logic.{inl, inr}
+use mathlib.Core.Logic.{◌≢◌, inl, inr}
 use mathlib.Core.List.{[], ◌∷◌}
 use Prim.Native.Nat.{ℕ, ◌≤◌}
 use native.Mathlib.Omega.{arith}
+use Rattle.std.specs.Prelude.{Result, Ok, Err}
 use Rattle.basics.proofs.Clash.{clash}
 use Rattle.ledger.specs.Ledger.{refused}
+use Rattle.small_float.specs.declared.Size.{Size}
 use Rattle.answers.specs.declared.Refusal.{Refusal}
+use Rattle.answers.specs.declared.StorageReport.{StorageReport}
 use Rattle.answers.specs.declared.Refusal.TheVariants.{BadCount, TableTooShort, NoSpareRecord, NoRegion, NotLive, Unsound, StartsElsewhere}
 use Rattle.answers.specs.Refusals.{number_of}
 use Rattle.answers.proofs.Numbers.{number_means}
 use Rattle.tables.specs.Claims.{OneOf}
+use Rattle.packets.specs.declared.Packet.{Packet}
 use Rattle.packets.specs.declared.PacketRefusal.{PacketRefusal}
 use Rattle.packets.specs.declared.PacketRefusal.TheVariants.{StoreTooShort, OfStore, TooManyBytes}
-use Rattle.packets.specs.declared.PacketAnswer.{PacketAnswer}
-use Rattle.packets.specs.declared.PacketAnswer.TheVariants as plainly
-use Rattle.packets.specs.declared.PacketGrant.{PacketGrant}
-use Rattle.packets.specs.declared.PacketGrant.TheVariants as grant
-use Rattle.packets.specs.declared.PacketLength.{PacketLength}
-use Rattle.packets.specs.declared.PacketLength.TheVariants as long
-use Rattle.packets.specs.declared.PacketReport.{PacketReport}
-use Rattle.packets.specs.declared.PacketReport.TheVariants as report
-use Rattle.packets.specs.Calls.{plain}
-use Rattle.packets.specs.Answers.{why_number, done_says, grant_says, length_says, report_says}
+use Rattle.packets.specs.Calls.{Answered, plain}
+use Rattle.packets.specs.Answers.{why_number, says, done_says, grant_says, length_says, report_says}
 use Rattle.packets.specs.OneValue.{PacketNumbers, PacketOneValue}
 
 -- ---- numbers
@@ -99,36 +95,37 @@ packet_numbers = record {
 same_why : (why other : PacketRefusal) → plain (refused (why_number why)) ≡ plain (refused (why_number other)) → why ≡ other
 same_why why other e = none_shared why other (cc)
 
-of_done : (a b : PacketAnswer) → done_says a ≡ done_says b → a ≡ b
-of_done plainly.Done plainly.Done e = refl
-of_done plainly.Done (plainly.Refused why) e = clash (cc)
-of_done (plainly.Refused why) plainly.Done e = clash (cc)
-of_done (plainly.Refused why) (plainly.Refused other) e = ap plainly.Refused (same_why why other e)
+-- an answer is given by what it says, if what is told is, and tells no refusal
+of_said : {T : Type 0} (told : T → Answered) → ((x y : T) → told x ≡ told y → x ≡ y) → ((x : T) (n : ℕ) → told x ≢ plain (refused n))
+    → (a b : Result T PacketRefusal) → says told a ≡ says told b → a ≡ b
+of_said told one none (Ok x) (Ok y) e = ap Ok (one x y e)
+of_said told one none (Ok x) (Err why) e = absurd (none x (why_number why) e)
+of_said told one none (Err why) (Ok y) e = absurd (none y (why_number why) (sym e))
+of_said told one none (Err why) (Err other) e = ap Err (same_why why other e)
 
-of_grant : (a b : PacketGrant) → grant_says a ≡ grant_says b → a ≡ b
-of_grant (grant.Granted p) (grant.Granted q) e =
+of_done : (a b : Result Unit PacketRefusal) → done_says a ≡ done_says b → a ≡ b
+of_done = of_said _ (λ x y e. refl) (λ x n e. clash (cc))
+
+one_packet : (p q : Packet) → grant_says (Ok p) ≡ grant_says (Ok q) → p ≡ q
+one_packet p q e =
     let stores : p.store ≡ q.store = cc in
     let offsets : p.span.offset ≡ q.span.offset = cc in
     let records : p.span.metadata.0 ≡ q.span.metadata.0 = cc in
-    ap grant.Granted (λ i. record { store = stores i; span = record { offset = offsets i; metadata = record { 0 = records i } } })
-of_grant (grant.Granted p) (grant.Refused why) e = clash (cc)
-of_grant (grant.Refused why) (grant.Granted q) e = clash (cc)
-of_grant (grant.Refused why) (grant.Refused other) e = ap grant.Refused (same_why why other e)
+    λ i. record { store = stores i; span = record { offset = offsets i; metadata = record { 0 = records i } } }
 
-of_length : (a b : PacketLength) → length_says a ≡ length_says b → a ≡ b
-of_length (long.Length s) (long.Length t) e = let lengths : s.0 ≡ t.0 = cc in ap long.Length (λ i. record { 0 = lengths i })
-of_length (long.Length s) (long.Refused why) e = clash (cc)
-of_length (long.Refused why) (long.Length t) e = clash (cc)
-of_length (long.Refused why) (long.Refused other) e = ap long.Refused (same_why why other e)
+one_size : (s t : Size) → length_says (Ok s) ≡ length_says (Ok t) → s ≡ t
+one_size s t e = let lengths : s.0 ≡ t.0 = cc in λ i. record { 0 = lengths i }
 
-of_report : (a b : PacketReport) → report_says a ≡ report_says b → a ≡ b
-of_report (report.Report r) (report.Report q) e =
+one_report : (r q : StorageReport) → report_says (Ok r) ≡ report_says (Ok q) → r ≡ q
+one_report r q e =
     let totals : r.total_free_space.0 ≡ q.total_free_space.0 = cc in
     let largest : r.largest_free_region.0 ≡ q.largest_free_region.0 = cc in
-    ap report.Report (λ i. record { total_free_space = record { 0 = totals i }; largest_free_region = record { 0 = largest i } })
-of_report (report.Report r) (report.Refused why) e = clash (cc)
-of_report (report.Refused why) (report.Report q) e = clash (cc)
-of_report (report.Refused why) (report.Refused other) e = ap report.Refused (same_why why other e)
+    λ i. record { total_free_space = record { 0 = totals i }; largest_free_region = record { 0 = largest i } }
 
 pub packet_one_value : PacketOneValue
-packet_one_value = record { of_done = of_done; of_grant = of_grant; of_length = of_length; of_report = of_report }
+packet_one_value = record {
+  of_done = of_done;
+  of_grant = of_said _ one_packet (λ x n e. clash (cc));
+  of_length = of_said _ one_size (λ x n e. clash (cc));
+  of_report = of_said _ one_report (λ x n e. clash (cc));
+}

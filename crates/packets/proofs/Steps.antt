@@ -1,6 +1,6 @@
 -- What the walks of the code go by, under any edition: each step of a call on one store, from what the call below promises. Assumes nothing.
 use mathlib.Core.Path.{◌≡◌, refl, sym, ap, ◌∙◌}
-use mathlib.Core.Bool.{Bool, true, false, ◌||◌, cond}
+use mathlib.Core.Bool.{Bool, false, ◌||◌, cond}
 use mathlib.Core.List.{List, []}
 use Prim.Native.Nat.{ℕ, ◌+◌, ◌≤◌, ◌<◌}
 use native.Mathlib.Omega.{arith}
@@ -19,14 +19,7 @@ use Rattle.packets.specs.Stores.{Kept, with_bytes}
 use Rattle.packets.specs.OneStore.{fresh_bytes, inside_size, filled_by, shown_by, take_in, length_in, fill_in, read_in}
 use Rattle.packets.specs.Calls.{Answered, plain, plainly}
 
--- ---- the test for 9
-pub first_short : (a b : ℕ) (t : Bool) → a < b → true ≡ (ltb a b || t)
-first_short a b t h = sym (ap (λ (x : Bool). x || t) (lt-ltb a b h))
-
-pub then_second : (a b : ℕ) (t : Bool) → b ≤ a → t ≡ (ltb a b || t)
-then_second a b t h = sym (ap (λ (x : Bool). x || t) (le-ltb a b h))
-
--- told no, both are long enough
+-- ---- the test for 9: told no, both are long enough
 pub both_long : (a b c d : ℕ) → (ltb a b || ltb c d) ≡ false → (b ≤ a) × (d ≤ c)
 both_long a b c d e = go (below? a b) (below? c d)
   where

@@ -1,18 +1,14 @@
 -- What each answer of the code is: the documents' number and figures for each of its cases. Assumes nothing.
-use Rattle.std.specs.Prelude.{ℕ}
+use Rattle.std.specs.Prelude.{ℕ, Result, Ok, Err}
 use Rattle.ledger.specs.Ledger.{done, length_is, reported, refused}
 use Rattle.ledger.specs.Figures.{refusal_of}
+use Rattle.small_float.specs.declared.Size.{Size}
+use Rattle.answers.specs.declared.StorageReport.{StorageReport}
+use Rattle.answers.specs.declared.Refusal.{Refusal}
 use Rattle.answers.specs.Refusals.{number_of}
+use Rattle.packets.specs.declared.Packet.{Packet}
 use Rattle.packets.specs.declared.PacketRefusal.{PacketRefusal}
 use Rattle.packets.specs.declared.PacketRefusal.TheVariants as why
-use Rattle.packets.specs.declared.PacketAnswer.{PacketAnswer}
-use Rattle.packets.specs.declared.PacketAnswer.TheVariants as plainly
-use Rattle.packets.specs.declared.PacketGrant.{PacketGrant}
-use Rattle.packets.specs.declared.PacketGrant.TheVariants as grant
-use Rattle.packets.specs.declared.PacketLength.{PacketLength}
-use Rattle.packets.specs.declared.PacketLength.TheVariants as long
-use Rattle.packets.specs.declared.PacketReport.{PacketReport}
-use Rattle.packets.specs.declared.PacketReport.TheVariants as report
 use Rattle.packets.specs.Calls.{Answered, packet, shows, plain}
 
 -- the documents' number for each refusal
@@ -27,18 +23,24 @@ refusal_in (packet s o r) = 0
 refusal_in (shows bytes) = 0
 refusal_in (plain a) = refusal_of a
 
-abbrev pub done_says : PacketAnswer → Answered
-done_says plainly.Done = plain done
-done_says (plainly.Refused why) = plain (refused (why_number why))
+-- an answer that is no refusal says what it tells, any other the refusal's number
+abbrev pub says : {T : Type 0} → (T → Answered) → Result T PacketRefusal → Answered
+says told (Ok x) = told x
+says told (Err why) = plain (refused (why_number why))
 
-abbrev pub grant_says : PacketGrant → Answered
-grant_says (grant.Granted p) = packet p.store p.span.offset p.span.metadata.0
-grant_says (grant.Refused why) = plain (refused (why_number why))
+abbrev pub done_says : Result Unit PacketRefusal → Answered
+done_says = says (λ _. plain done)
 
-abbrev pub length_says : PacketLength → Answered
-length_says (long.Length s) = plain (length_is s.0)
-length_says (long.Refused why) = plain (refused (why_number why))
+abbrev pub grant_says : Result Packet PacketRefusal → Answered
+grant_says = says (λ p. packet p.store p.span.offset p.span.metadata.0)
 
-abbrev pub report_says : PacketReport → Answered
-report_says (report.Report r) = plain (reported r.total_free_space.0 r.largest_free_region.0)
-report_says (report.Refused why) = plain (refused (why_number why))
+abbrev pub length_says : Result Size PacketRefusal → Answered
+length_says = says (λ size. plain (length_is size.0))
+
+abbrev pub report_says : Result StorageReport PacketRefusal → Answered
+report_says = says (λ report. plain (reported report.total_free_space.0 report.largest_free_region.0))
+
+-- an allocator's answer as one of the layer's
+abbrev pub from_store : {T : Type 0} → Result T Refusal → Result T PacketRefusal
+from_store (Ok x) = Ok x
+from_store (Err refusal) = Err (why.OfStore refusal)

@@ -1,16 +1,15 @@
 -- A refusal of the packet layer is known by its number, and an answer of the code is given by what it says: any two that say the same are one value.
 -- proofs/OneValue.antt makes both. Assumes nothing.
-use Rattle.std.specs.Prelude.{◌≡◌, ◌↔◌, ◌≢◌, List, [], ◌∷◌, ℕ, ◌≤◌}
+use Rattle.std.specs.Prelude.{◌≡◌, ◌↔◌, ◌≢◌, List, [], ◌∷◌, ℕ, ◌≤◌, Result}
 use Rattle.ledger.specs.Ledger.{refused}
+use Rattle.small_float.specs.declared.Size.{Size}
 use Rattle.answers.specs.declared.Refusal.{Refusal}
+use Rattle.answers.specs.declared.StorageReport.{StorageReport}
 use Rattle.tables.specs.Claims.{OneOf}
+use Rattle.packets.specs.declared.Packet.{Packet}
 use Rattle.packets.specs.declared.Store.{Store}
 use Rattle.packets.specs.declared.PacketRefusal.{PacketRefusal}
 use Rattle.packets.specs.declared.PacketRefusal.TheVariants.{StoreTooShort, OfStore, TooManyBytes}
-use Rattle.packets.specs.declared.PacketAnswer.{PacketAnswer}
-use Rattle.packets.specs.declared.PacketGrant.{PacketGrant}
-use Rattle.packets.specs.declared.PacketLength.{PacketLength}
-use Rattle.packets.specs.declared.PacketReport.{PacketReport}
 use Rattle.packets.specs.Calls.{packet, shows, plain}
 use Rattle.packets.specs.Answers.{why_number, refusal_in, done_says, grant_says, length_says, report_says}
 
@@ -30,7 +29,7 @@ pub record PacketNumbers : Type 0 where
   pub of_read : (bytes : List ℕ) → refusal_in (shows bytes) ≡ 0
 
 pub record PacketOneValue : Type 0 where
-  pub of_done : (a b : PacketAnswer) → done_says a ≡ done_says b → a ≡ b
-  pub of_grant : (a b : PacketGrant) → grant_says a ≡ grant_says b → a ≡ b
-  pub of_length : (a b : PacketLength) → length_says a ≡ length_says b → a ≡ b
-  pub of_report : (a b : PacketReport) → report_says a ≡ report_says b → a ≡ b
+  pub of_done : (a b : Result Unit PacketRefusal) → done_says a ≡ done_says b → a ≡ b
+  pub of_grant : (a b : Result Packet PacketRefusal) → grant_says a ≡ grant_says b → a ≡ b
+  pub of_length : (a b : Result Size PacketRefusal) → length_says a ≡ length_says b → a ≡ b
+  pub of_report : (a b : Result StorageReport PacketRefusal) → report_says a ≡ report_says b → a ≡ b

@@ -30,6 +30,11 @@ abbrev pub other : Store → Store
 other OnChip = External
 other External = OnChip
 
+-- of any two values, one for each store, that of the store that is meant
+abbrev pub one_at : {H : Type 0} → Store → (on-chip external : H) → H
+one_at OnChip on-chip external = on-chip
+one_at External on-chip external = external
+
 -- the two, of which this one is the store that is meant
 abbrev pub placed : Store → (meant beside : Kept) → Two
 placed OnChip k b = two k b

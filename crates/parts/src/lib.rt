@@ -8,27 +8,12 @@ ghost use Rattle.parts.specs.Bytes.{part_of, over, marked};
 // Our mark for not heard.
 pub const NOT_HEARD: u8 = 255;
 
-// Every byte of the part is set to 255.
-fn mark_all(part: &mut [u8])
-    ensures { part.new ≡ replicate (length part.old) 255 }
-{
-    let mut marked = 0;
-    while marked < part.len() {
-        part[marked] = NOT_HEARD;
-        marked += 1;
-    }
-}
-
 // The bytes are written at the front of the part.
 fn fill_front(part: &mut [u8], bytes: &[u8])
     requires { length bytes.now ≤ length part.old }
     ensures { part.new ≡ bytes.now ++ drop (length bytes.now) part.old }
 {
-    let mut i = 0;
-    while i < bytes.len() {
-        part[i] = bytes[i];
-        i += 1;
-    }
+    part[..bytes.len()].copy_from_slice(bytes);
 }
 
 // The part of a fresh grant: every byte of it is our mark for not heard.
@@ -38,7 +23,7 @@ pub fn mark(store: &mut [u8], offset: u32, len: u32)
 {
     let start = offset as usize;
     let end = start + (len as usize);
-    mark_all(&mut store[start..end]);
+    store[start..end].fill(NOT_HEARD);
 }
 
 // The part is lent on, just that, and the bytes are written at its front.
@@ -53,6 +38,7 @@ pub fn fill(store: &mut [u8], offset: u32, len: u32, bytes: &[u8])
 }
 
 // The part itself, never a copy.
+#[tactic(auto, unfolding(crate::specs::Bytes::part_of))]
 pub fn part<'a>(store: &'a [u8], offset: u32, len: u32) -> &'a [u8]
     requires { offset + len ≤ length store.now }
     ensures { result.now ≡ part_of store.now offset len }

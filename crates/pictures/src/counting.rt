@@ -1,47 +1,28 @@
 // How many calls there are to draw, and how the journal ends.
-use journal::entry::{Broken, Entry};
+use journal::entry::Entry;
 
 // So many calls a picture shows.
 pub const MOST: u32 = 1000;
 
-#[derive(Clone, Copy)]
-pub enum Ending {
-    Whole,
-    Broke(Broken),
-    // there are more calls than a picture shows
-    GoesOn,
-}
-
+// The calls that are drawn, and what stands behind the last of them: nothing, where the journal is whole; a record that cannot be read; or one more call,
+// where there are more than a picture shows.
 #[derive(Clone, Copy)]
 pub struct Counted {
     pub calls: u32,
-    pub ending: Ending,
-}
-
-// What stands behind the last call that is drawn.
-fn ending_at(bytes: &[u8], at: usize) -> Ending {
-    match journal::reading::read(bytes, at) {
-        Entry::Read(_, _) => Ending::GoesOn,
-        Entry::End => Ending::Whole,
-        Entry::Refused(why) => Ending::Broke(why),
-    }
+    pub behind: Entry,
 }
 
 pub fn count(bytes: &[u8]) -> Counted {
     let mut at = 0;
-    let mut calls: u32 = 0;
-    while calls < MOST {
-        let Entry::Read(_, next) = journal::reading::read(bytes, at) else {
-            return Counted {
-                calls,
-                ending: ending_at(bytes, at),
-            };
+    for calls in 0..MOST {
+        let behind = journal::reading::read(bytes, at);
+        let Ok(Some(record)) = behind else {
+            return Counted { calls, behind };
         };
-        calls += 1;
-        at = next;
+        at = record.next;
     }
     Counted {
-        calls,
-        ending: ending_at(bytes, at),
+        calls: MOST,
+        behind: journal::reading::read(bytes, at),
     }
 }

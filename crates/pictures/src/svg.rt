@@ -1,123 +1,99 @@
-// Elements of an SVG. Places across are in pixels, places down in hundredths of one, since a region can be much shorter than a pixel.
+// Elements of an SVG. Places across are in pixels, and in hundredths of one where that is fine enough; places down are in hundredths, since a region can be
+// much shorter than a pixel.
+use journal_lines::Lines;
+
+// A place or an extent, in units of its own, that is written in pixels.
+pub trait Length: Clone + Copy {
+    fn put(self, out: &mut Lines);
+}
+
+#[derive(Clone, Copy)]
+pub struct Pixels(pub u32);
+
+#[derive(Clone, Copy)]
+pub struct Hundredths(pub u32);
+
+impl Length for Pixels {
+    fn put(self, out: &mut Lines) {
+        out.number(u64::from(self.0));
+    }
+}
+
+impl Length for Hundredths {
+    fn put(self, out: &mut Lines) {
+        let n = u64::from(self.0);
+        out.number(n / 100);
+        out.put(b".");
+        out.number(n / 10 % 10);
+        out.number(n % 10);
+    }
+}
 
 // A name with a number: the name has the quote behind it that opens the value.
-pub fn attribute(waiting: usize, name: &[u8], n: u32, out: &mut [u8; 65536]) -> usize {
-    let named = journal_lines::put(waiting, name, out);
-    let told = journal_lines::number(named, n as u64, out);
-    journal_lines::put(told, b"'", out)
-}
-
-// So many hundredths of a pixel, in pixels.
-pub fn pixels(waiting: usize, hundredths: u32, out: &mut [u8; 65536]) -> usize {
-    let whole = journal_lines::number(waiting, (hundredths / 100) as u64, out);
-    let point = journal_lines::put(whole, b".", out);
-    let tenths = journal_lines::number(point, (hundredths / 10 % 10) as u64, out);
-    journal_lines::number(tenths, (hundredths % 10) as u64, out)
-}
-
-pub fn attribute_down(
-    waiting: usize,
-    name: &[u8],
-    hundredths: u32,
-    out: &mut [u8; 65536],
-) -> usize {
-    let named = journal_lines::put(waiting, name, out);
-    let told = pixels(named, hundredths, out);
-    journal_lines::put(told, b"'", out)
+pub fn attribute<L: Length>(name: &[u8], length: L, out: &mut Lines) {
+    out.put(name);
+    length.put(out);
+    out.put(b"'");
 }
 
 // A place and an extent.
 #[derive(Clone, Copy)]
-pub struct Area {
-    pub x: u32,
-    pub y: u32,
-    pub width: u32,
-    pub height: u32,
+pub struct Area<X> {
+    pub x: X,
+    pub y: Hundredths,
+    pub width: X,
+    pub height: Hundredths,
 }
 
 // The rest of a rectangle, behind its class.
-fn close_rect(waiting: usize, area: Area, out: &mut [u8; 65536]) -> usize {
-    let x = attribute(waiting, b"' x='", area.x, out);
-    let y = attribute_down(x, b" y='", area.y, out);
-    let width = attribute(y, b" width='", area.width, out);
-    let height = attribute_down(width, b" height='", area.height, out);
-    journal_lines::put(height, b"/>\n", out)
+fn close_rect<X: Length>(area: Area<X>, out: &mut Lines) {
+    attribute(b"' x='", area.x, out);
+    attribute(b" y='", area.y, out);
+    attribute(b" width='", area.width, out);
+    attribute(b" height='", area.height, out);
+    out.put(b"/>\n");
 }
 
-pub fn rect(waiting: usize, class: &[u8], area: Area, out: &mut [u8; 65536]) -> usize {
-    let begun = journal_lines::put(waiting, b"<rect class='", out);
-    let classed = journal_lines::put(begun, class, out);
-    close_rect(classed, area, out)
+pub fn rect<X: Length>(class: &[u8], area: Area<X>, out: &mut Lines) {
+    out.put(b"<rect class='");
+    out.put(class);
+    close_rect(area, out);
 }
 
 // A rectangle in one of the numbered colours.
-pub fn coloured(waiting: usize, colour: u32, area: Area, out: &mut [u8; 65536]) -> usize {
-    let begun = journal_lines::put(waiting, b"<rect class='c", out);
-    let classed = journal_lines::number(begun, colour as u64, out);
-    close_rect(classed, area, out)
-}
-
-// One whose places and extents across are in hundredths of a pixel too.
-pub fn fine_rect(waiting: usize, class: &[u8], area: Area, out: &mut [u8; 65536]) -> usize {
-    let begun = journal_lines::put(waiting, b"<rect class='", out);
-    let classed = journal_lines::put(begun, class, out);
-    let x = attribute_down(classed, b"' x='", area.x, out);
-    let y = attribute_down(x, b" y='", area.y, out);
-    let width = attribute_down(y, b" width='", area.width, out);
-    let height = attribute_down(width, b" height='", area.height, out);
-    journal_lines::put(height, b"/>\n", out)
+pub fn coloured<X: Length>(colour: u32, area: Area<X>, out: &mut Lines) {
+    out.put(b"<rect class='c");
+    out.number(u64::from(colour));
+    close_rect(area, out);
 }
 
 // A text begins; it ends with `close_text`.
-pub fn open_text(waiting: usize, class: &[u8], x: u32, y: u32, out: &mut [u8; 65536]) -> usize {
-    let begun = journal_lines::put(waiting, b"<text class='", out);
-    let classed = journal_lines::put(begun, class, out);
-    let across = attribute(classed, b"' x='", x, out);
-    let down = attribute_down(across, b" y='", y, out);
-    journal_lines::put(down, b">", out)
+pub fn open_text(class: &[u8], x: Pixels, y: Hundredths, out: &mut Lines) {
+    out.put(b"<text class='");
+    out.put(class);
+    attribute(b"' x='", x, out);
+    attribute(b" y='", y, out);
+    out.put(b">");
 }
 
 // One that reads downwards.
-pub fn open_downward(waiting: usize, class: &[u8], x: u32, y: u32, out: &mut [u8; 65536]) -> usize {
-    let begun = journal_lines::put(waiting, b"<text class='", out);
-    let classed = journal_lines::put(begun, class, out);
-    let moved = journal_lines::put(classed, b"' transform='translate(", out);
-    let across = journal_lines::number(moved, x as u64, out);
-    let between = journal_lines::put(across, b" ", out);
-    let down = journal_lines::number(between, (y / 100) as u64, out);
-    journal_lines::put(down, b") rotate(90)'>", out)
+pub fn open_downward(class: &[u8], x: Pixels, y: Hundredths, out: &mut Lines) {
+    out.put(b"<text class='");
+    out.put(class);
+    out.put(b"' transform='translate(");
+    x.put(out);
+    out.put(b" ");
+    out.number(u64::from(y.0 / 100));
+    out.put(b") rotate(90)'>");
 }
 
-pub fn close_text(waiting: usize, out: &mut [u8; 65536]) -> usize {
-    journal_lines::put(waiting, b"</text>\n", out)
+pub fn close_text(out: &mut Lines) {
+    out.put(b"</text>\n");
 }
 
 // A number as a text.
-pub fn number_at(
-    waiting: usize,
-    class: &[u8],
-    x: u32,
-    y: u32,
-    n: u32,
-    out: &mut [u8; 65536],
-) -> usize {
-    let opened = open_text(waiting, class, x, y, out);
-    let told = journal_lines::number(opened, n as u64, out);
-    close_text(told, out)
-}
-
-// The lesser of the sum and the largest number: no picture is as wide.
-pub fn plus(a: u32, b: u32) -> u32 {
-    if 4294967295 - a < b {
-        return 4294967295;
-    }
-    a + b
-}
-
-// The difference, or 0.
-pub fn minus(a: u32, b: u32) -> u32 {
-    if a < b {
-        return 0;
-    }
-    a - b
+pub fn number_at(class: &[u8], x: Pixels, y: Hundredths, n: u32, out: &mut Lines) {
+    open_text(class, x, y, out);
+    out.number(u64::from(n));
+    close_text(out);
 }

@@ -1,12 +1,28 @@
 -- The words that the code's pieces make: totals by value, two arrays and two tables lent. The head's scalars are spelled out here and in src/totals.rt,
 -- so that a new one is named in these two files. Assumes nothing.
-use Rattle.std.specs.Prelude.{◌↔◌, ℕ, ◌+◌, ◌-◌, ◌*◌, ◌≤◌, ◌<◌, ◌≡◌, List, [], ◌∷◌, length, get_or}
+use Rattle.std.specs.Prelude.{◌↔◌, ℕ, ◌+◌, ◌-◌, ◌*◌, ◌≤◌, ◌<◌, ◌≡◌, List, [], ◌∷◌, length, get_or, Result, Ok, Err}
+use Rattle.ledger.specs.Ledger.{Answer}
+use Rattle.tables.specs.Layout.{data_offset, data_size, bin_prev, bin_next, neighbor_prev, neighbor_next, used}
 use Rattle.tables.specs.Words.{Words, Bounds}
 use Rattle.tables.specs.Calls.{edition32}
+use Rattle.answers.specs.declared.Refusal.{Refusal}
 use Rattle.answers.specs.Refusals.{number_of}
+use Rattle.answers.specs.Answers.{says}
+use Rattle.records.specs.declared.answered.Answered.{Answered}
 use Rattle.records.specs.declared.totals.Totals.{Totals}
-use Rattle.records.specs.declared.gate.Gate.{Gate}
-use Rattle.records.specs.declared.gate.Gate.TheVariants.{Open, Shut}
+use Rattle.records.specs.declared.nodes.Field.{Field}
+use Rattle.records.specs.declared.nodes.Field.TheVariants.{DataOffset, DataSize, BinListPrev, BinListNext, NeighborPrev, NeighborNext, Used, Kept}
+
+-- ---- where the words of a record stand in it, as the layout has them; nothing stands in the last yet
+abbrev pub place : Field → ℕ
+place DataOffset = data_offset
+place DataSize = data_size
+place BinListPrev = bin_prev
+place BinListNext = bin_next
+place NeighborPrev = neighbor_prev
+place NeighborNext = neighbor_next
+place Used = used
+place Kept = 7
 
 -- ---- the scalars
 abbrev pub scalars : (size count free-storage free-offset used-bins-top : ℕ) → Totals
@@ -103,7 +119,11 @@ pub record RoomFacts : Type 0 where
   pub in_table : (r : ℕ) (nodes : List ℕ) → InTable r nodes ↔ ((k : ℕ) → k < 8 → 8 * r + k < length nodes)
   pub has_room : (n : ℕ) (nodes : List ℕ) → HasRoom n nodes ↔ ((r : ℕ) → r < n → InTable r nodes)
 
+-- ---- an answer in the ledger's terms, and all the words that the call leaves
+abbrev pub outcome_of : {T : Type 0} → (T → Answer) → Answered T → (heads leaves nodes pile : List ℕ) → Answer × Words
+outcome_of told a heads leaves nodes pile = (says told a.answer, words_of a.totals heads leaves nodes pile)
+
 -- ---- the gate's number: 0 where it is open
-abbrev pub gate_number : Gate → ℕ
-gate_number Open = 0
-gate_number (Shut why) = number_of why
+abbrev pub gate_number : Result Unit Refusal → ℕ
+gate_number (Ok _) = 0
+gate_number (Err why) = number_of why

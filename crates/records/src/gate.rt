@@ -10,29 +10,28 @@ use answers::Refusal;
 // The greatest count of records.
 pub const MAX_RECORDS: u32 = 1048576;
 
-#[derive(Clone, Copy)]
-pub enum Gate {
-    Open,
-    Shut(Refusal),
-}
-
-// A count out of its limits is refused as `bad_count`, a table too short for it as too short.
-pub fn test(max_allocs: u32, nodes: &[u32], free_nodes: &[u32], bad_count: Refusal) -> Gate
+// The gate is open, or shut for this reason: a count out of its limits is refused as `bad_count`, a table too short for it as too short.
+pub fn test(
+    max_allocs: u32,
+    nodes: &[u32],
+    free_nodes: &[u32],
+    bad_count: Refusal,
+) -> Result<(), Refusal>
     ensures { gate_number result
         ≡ gate edition32 (number_of bad_count) max_allocs (length nodes.now) (length free_nodes.now) }
 {
     if max_allocs < 2 {
-        return Gate::Shut(bad_count);
+        return Err(bad_count);
     }
     if MAX_RECORDS < max_allocs {
-        return Gate::Shut(bad_count);
+        return Err(bad_count);
     }
     let n = max_allocs as usize;
     if nodes.len() < 8 * n {
-        return Gate::Shut(Refusal::TableTooShort);
+        return Err(Refusal::TableTooShort);
     }
     if free_nodes.len() < n {
-        return Gate::Shut(Refusal::TableTooShort);
+        return Err(Refusal::TableTooShort);
     }
-    Gate::Open
+    Ok(())
 }

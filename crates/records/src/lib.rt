@@ -5,6 +5,7 @@
 // lengths of the tables once, and from the plan, which tests each record number that it reads: see docs/SPEED.md for what that saves.
 #![tactic(auto)]
 
+pub mod answered;
 pub mod gate;
 pub mod live;
 pub mod nodes;

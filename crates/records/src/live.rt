@@ -4,6 +4,7 @@ ghost use Rattle.tables.specs.HandBack.{is_live, is_free};
 ghost use Rattle.records.specs.InWords.{HasRoom};
 
 use crate::nodes;
+use crate::nodes::Field;
 use answers::Handle;
 
 // A record below the count that is marked live.
@@ -13,7 +14,7 @@ pub fn is_live(nodes: &[u32], max_allocs: u32, node: Handle) -> bool
     ensures { result ≡ is_live nodes.now max_allocs node.0 }
 {
     if node.0 < max_allocs {
-        if nodes::word(nodes, node, nodes::USED) == 0 {
+        if nodes::word(nodes, node, Field::Used) == 0 {
             return false;
         }
         return true;
@@ -27,7 +28,7 @@ pub fn is_free(nodes: &[u32], max_allocs: u32, link: Handle) -> bool
     ensures { result ≡ is_free nodes.now max_allocs link.0 }
 {
     if link.0 < max_allocs {
-        return nodes::word(nodes, link, nodes::USED) == 0;
+        return nodes::word(nodes, link, Field::Used) == 0;
     }
     false
 }

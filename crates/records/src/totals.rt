@@ -1,7 +1,6 @@
 // The scalars of a head, by value: what the in-place calls take and give back beside the arrays and tables that they are lent.
 //
-// Whoever makes them or changes one goes through these functions, so that a new scalar is named here and in specs/ alone. They are spelled out:
-// with `self.size = size; self` in their place the timed runs were slower (docs/SPEED.md).
+// Whoever makes them or changes one goes through these functions, so that a new scalar is named here and in specs/ alone.
 ghost use Rattle.std.specs.Prelude.{◌≡◌, ◌≤◌};
 ghost use Rattle.records.specs.InWords.{zero_totals, blank_totals, with_size, with_count, with_free_storage, with_free_offset, with_top_bits};
 ghost use Rattle.records.specs.InWords.{in_array, of_array, put_back};
@@ -14,9 +13,6 @@ pub struct Totals {
     pub free_offset: u32,
     pub used_bins_top: u32,
 }
-
-// An array tells the proof its length where it is lent as a slice; there is nothing to do.
-fn as_slice(_scalars: &[u32]) {}
 
 impl Totals {
     // Of no store: with a count of 0 every call on them is refused.
@@ -38,15 +34,16 @@ impl Totals {
         ensures { result ≡ blank_totals size max_allocs }
     {
         Totals {
-            size: size,
-            max_allocs: max_allocs,
+            size,
+            max_allocs,
             free_storage: size,
             free_offset: max_allocs - 1,
             used_bins_top: 0,
         }
     }
 
-    // The same scalars one by one, in a place of their own.
+    // The same scalars one by one, in a place of their own. No `clone`, which hands the place on that they stand in: calls by value are slower with it
+    // (docs/SPEED.md).
     pub fn copied(self) -> Totals
         ensures { result ≡ self }
     {
@@ -62,36 +59,21 @@ impl Totals {
     pub fn with_size(self, size: u32) -> Totals
         ensures { result ≡ with_size self size }
     {
-        Totals {
-            size: size,
-            max_allocs: self.max_allocs,
-            free_storage: self.free_storage,
-            free_offset: self.free_offset,
-            used_bins_top: self.used_bins_top,
-        }
+        Totals { size, ..self }
     }
 
     pub fn with_max_allocs(self, max_allocs: u32) -> Totals
         ensures { result ≡ with_count self max_allocs }
     {
-        Totals {
-            size: self.size,
-            max_allocs: max_allocs,
-            free_storage: self.free_storage,
-            free_offset: self.free_offset,
-            used_bins_top: self.used_bins_top,
-        }
+        Totals { max_allocs, ..self }
     }
 
     pub fn with_free_storage(self, free_storage: u32) -> Totals
         ensures { result ≡ with_free_storage self free_storage }
     {
         Totals {
-            size: self.size,
-            max_allocs: self.max_allocs,
-            free_storage: free_storage,
-            free_offset: self.free_offset,
-            used_bins_top: self.used_bins_top,
+            free_storage,
+            ..self
         }
     }
 
@@ -99,11 +81,8 @@ impl Totals {
         ensures { result ≡ with_free_offset self free_offset }
     {
         Totals {
-            size: self.size,
-            max_allocs: self.max_allocs,
-            free_storage: self.free_storage,
-            free_offset: free_offset,
-            used_bins_top: self.used_bins_top,
+            free_offset,
+            ..self
         }
     }
 
@@ -111,18 +90,15 @@ impl Totals {
         ensures { result ≡ with_top_bits self used_bins_top }
     {
         Totals {
-            size: self.size,
-            max_allocs: self.max_allocs,
-            free_storage: self.free_storage,
-            free_offset: self.free_offset,
-            used_bins_top: used_bins_top,
+            used_bins_top,
+            ..self
         }
     }
 
     // How many they are: the length of an array that holds them, in the order of the fields.
     pub const SCALARS: usize = 5;
 
-    // Those that stand in an array.
+    // Those that stand in an array. By a name and no `From`, as the next: programs in C lend such arrays, and it is this order that they keep.
     pub fn of_array(scalars: &[u32; Totals::SCALARS]) -> Totals
         ensures { result ≡ of_array scalars.now }
     {
@@ -151,7 +127,6 @@ impl Totals {
     pub fn put_back(self, scalars: &mut [u32; Totals::SCALARS])
         ensures { scalars.new ≡ put_back self scalars.old }
     {
-        as_slice(scalars);
         scalars[2] = self.free_storage;
         scalars[3] = self.free_offset;
         scalars[4] = self.used_bins_top;

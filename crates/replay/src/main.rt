@@ -5,84 +5,60 @@
 
 mod progress;
 
-use calls::Answer;
-use journal::entry::Broken;
 use journal_input::Window;
+use journal_lines::Lines;
 use records::totals::Totals;
-use replaying::Outcome;
+use replaying::Made;
 
-// Where the journal is read next, the store's scalars, and how many bytes wait to be written; whether it goes on.
+// Where the journal is read next, and the store's scalars.
 #[derive(Clone, Copy)]
 struct Replay {
     window: Window,
     totals: Totals,
-    waiting: usize,
-    going: bool,
 }
 
-// A line for an answer, and one for what ends the journal.
-fn put_answer(answer: Answer, waiting: usize, out: &mut [u8; 65536]) -> usize {
-    let told = journal_lines::answer(waiting, answer, out);
-    journal_lines::put(told, b"\n", out)
-}
-
-fn put_last(why: Broken, waiting: usize, out: &mut [u8; 65536]) -> usize {
-    let told = journal_lines::last(waiting, why, out);
-    journal_lines::put(told, b"\n", out)
-}
-
-// One record more.
+// One record more; where the replay goes on, if it does.
 fn turn(
     replay: Replay,
     buffer: &mut [u8],
-    out: &mut [u8; 65536],
+    out: &mut Lines,
     bin_indices: &mut [u32; 256],
     used_bins: &mut [u8; 32],
     nodes: &mut [u32],
     free_nodes: &mut [u32],
-) -> Replay {
-    let before = replay.window;
-    let t = replay.totals;
-    let window = journal_input::refill(before, buffer);
+) -> Option<Replay> {
+    let window = journal_input::refill(replay.window, buffer);
     let stepped = replaying::step(
         journal_lines::front(buffer, window.end),
         window.at,
-        t,
+        replay.totals,
         bin_indices,
         used_bins,
         nodes,
         free_nodes,
     );
-    let totals = stepped.totals;
-    let outcome = stepped.outcome;
-    let waiting = replay.waiting;
-    match outcome {
-        Outcome::Answered(answer, next) => Replay {
-            window: window.moved(next),
-            totals,
-            waiting: put_answer(answer, waiting, out),
-            going: true,
-        },
-        Outcome::AtEnd => Replay {
-            window,
-            totals,
-            waiting,
-            going: false,
-        },
-        Outcome::BrokenOff(why) => Replay {
-            window,
-            totals,
-            waiting: put_last(why, waiting, out),
-            going: false,
-        },
+    match stepped.outcome {
+        Ok(Some(Made { answer, next })) => {
+            out.answer_line(answer);
+            Some(Replay {
+                window: window.moved(next),
+                totals: stepped.totals,
+            })
+        }
+        Ok(None) => None,
+        Err(why) => {
+            out.last_line(why);
+            None
+        }
     }
 }
 
 // The journal to its end. A proved loop has to end, and nothing says that the input does: so records are counted, up to a number that no run reaches.
 fn run(
+    rt: &impl Eprint,
     shown: bool,
     buffer: &mut [u8; 262144],
-    out: &mut [u8; 65536],
+    out: &mut Lines,
     nodes: &mut [u32; 8192],
     free_nodes: &mut [u32; 1024],
 ) {
@@ -91,13 +67,9 @@ fn run(
     let mut replay = Replay {
         window: Window::new(),
         totals: Totals::zeros(),
-        waiting: 0,
-        going: true,
     };
-    let mut records: u64 = 0;
-    while records < u64::MAX {
-        records += 1;
-        replay = turn(
+    for records in 0..u64::MAX {
+        let gone_on = turn(
             replay,
             buffer,
             out,
@@ -106,19 +78,27 @@ fn run(
             nodes,
             free_nodes,
         );
-        if !replay.going {
-            journal_lines::flush(replay.waiting, out);
-            return progress::end(shown);
-        }
-        progress::show(shown, records);
+        let Some(next) = gone_on else {
+            out.flush();
+            return progress::end(rt, shown);
+        };
+        replay = next;
+        progress::show(rt, shown, records + 1);
     }
 }
 
 fn main(rt: HostRuntime) {
     let shown = progress::is_shown(rt.stderr());
     let mut buffer = [0u8; 262144];
-    let mut out = [0u8; 65536];
+    let mut out = Lines::new();
     let mut nodes = [0u32; 8192];
     let mut free_nodes = [0u32; 1024];
-    run(shown, &mut buffer, &mut out, &mut nodes, &mut free_nodes);
+    run(
+        &rt,
+        shown,
+        &mut buffer,
+        &mut out,
+        &mut nodes,
+        &mut free_nodes,
+    );
 }

@@ -1,7 +1,6 @@
-// How far a long replay is, on standard error if that is a terminal.
+// How far a long replay is, on standard error if that is a terminal. The replay goes on where that cannot be told.
 use std::io::IsTerminal;
 use std::rt::Stderr;
-use streams::STDERR_FILENO;
 
 const EVERY: u64 = 1048576;
 
@@ -9,21 +8,15 @@ pub fn is_shown(stderr: Stderr) -> bool {
     stderr.is_terminal()
 }
 
-pub fn show(shown: bool, calls: u64) {
-    if !shown {
-        return;
+pub fn show(rt: &impl Eprint, shown: bool, calls: u64) {
+    if shown && calls % EVERY == 0 {
+        let _ = eprint!(rt; "\r{calls} calls");
     }
-    if calls % EVERY != 0 {
-        return;
-    }
-    io::write_all(STDERR_FILENO, b"\r");
-    io::print_decimal(STDERR_FILENO, calls);
-    io::write_all(STDERR_FILENO, b" calls");
 }
 
 // The line is left empty again.
-pub fn end(shown: bool) {
+pub fn end(rt: &impl Eprint, shown: bool) {
     if shown {
-        io::write_all(STDERR_FILENO, b"\r                           \r");
+        let _ = eprint!(rt; "\r{:27}\r", "");
     }
 }

@@ -1,5 +1,5 @@
 -- Every claim of a replay. Assumes nothing.
-use mathlib.Core.Path.{◌≡◌, refl, sym, ap, subst}
+use mathlib.Core.Path.{◌≡◌, refl, sym, ap, subst, ◌∙◌}
 use mathlib.Core.List.{List, [], ◌∷◌, map}
 use Prim.Native.Nat.{ℕ}
 use lib.ListN.{length}
@@ -12,6 +12,7 @@ use Rattle.calls.specs.declared.Call.TheVariants.{Take, HandBack, SetUp, Reset}
 use Rattle.calls.specs.Values.{says}
 use Rattle.calling.specs.Makes.{lent_in, Makes}
 use Rattle.journal.specs.Reading.{Ending, broken, Holds, no_more, breaks, one_more}
+use Rattle.journal.proofs.WasWritten.{same_read}
 use Rattle.demands.specs.Runs.{Asked, Step, called, set_up, Done, did, Run, nothing, then, asked_of}
 use Rattle.demands.specs.Runs as runs
 use Rattle.replaying.specs.Meaning.{Standing, meant, answers_of, standing_after}
@@ -48,8 +49,9 @@ module _ (E : Edition) where
       (one_more {next = place} {c = c} {cs = cs} {end = other} e more) =
       let means = answered_means E step in
       let found = means.1 in
-      let calls : means.0 ≡ c = cc in
-      let places : next ≡ place = cc in
+      let same = same_read means.0 c next place (sym found ∙ e) in
+      let calls : means.0 ≡ c = same.0 in
+      let places : next ≡ place = same.1 in
       let made : Makes E c w v (says a) = subst (λ (x : Call). Makes E x w v (says a)) calls means.2 in
       let meets = call_meets E c s stands made in
       let nodes : ℕ = length w.nodes in
@@ -97,8 +99,9 @@ module _ (E : Edition) where
       (one_more {next = place} {c = c} {cs = cs} {end = other} e more) =
       let means = answered_means E step in
       let found = means.1 in
-      let calls : means.0 ≡ c = cc in
-      let places : next ≡ place = cc in
+      let same = same_read means.0 c next place (sym found ∙ e) in
+      let calls : means.0 ≡ c = same.0 in
+      let places : next ≡ place = same.1 in
       let made : Makes E c w v (says a) = subst (λ (x : Call). Makes E x w v (says a)) calls means.2 in
       let there : Holds bytes next cs other = subst (λ (p : ℕ). Holds bytes p cs other) (sym places) more in
       let later : AsRun v u given cs = is_a_run rest there in

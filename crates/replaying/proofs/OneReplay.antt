@@ -6,21 +6,24 @@ use Rattle.basics.proofs.Clash.{clash}
 use Rattle.ledger.specs.Ledger as ledger
 use Rattle.tables.specs.Words.{Words, Edition}
 use Rattle.calls.specs.declared.Call.{Call}
-use Rattle.calls.specs.declared.Answer.{Answer}
-use Rattle.calls.specs.Values.{says}
+use Rattle.calls.specs.Values.{Answer, says}
 use Rattle.calls.proofs.OneValue.{one_value}
 use Rattle.calling.specs.Makes.{Makes}
 use Rattle.records.specs.InWords.{InPlace, placed_words}
 use Rattle.records.proofs.InPlace.{placed}
 use Rattle.calling.proofs.OneMade.{one_of_them}
 use Rattle.journal.specs.declared.entry.Broken.{Broken}
-use Rattle.journal.specs.declared.entry.Entry.{Entry}
-use Rattle.journal.specs.declared.entry.Entry.TheVariants as entry
-use Rattle.journal.specs.Reading.{Ending, broken}
-use Rattle.replaying.specs.declared.Outcome.{Outcome}
-use Rattle.replaying.specs.declared.Outcome.TheVariants.{Answered, AtEnd, BrokenOff}
-use Rattle.replaying.specs.Steps.{Steps, answered, at_end, broken_off}
+use Rattle.journal.specs.Reading as entry
+use Rattle.journal.specs.Reading.{Entry, Ending, broken}
+use Rattle.replaying.specs.declared.Made.{Made}
+use Rattle.replaying.specs.Steps.{Outcome, Answered, AtEnd, BrokenOff, Steps, answered, at_end, broken_off}
 use Rattle.replaying.specs.Replays.{Replays, ends, breaks_off, goes_on}
+
+-- what comes of a call that is made is one answer, and one place behind it
+same_made : (a b : Answer) (next other : ℕ) → Answered a next ≡ Answered b other → (a ≡ b) × (next ≡ other)
+same_made a b next other e =
+    let both : ◌≡◌ {A = Made} record { answer = a; next = next } record { answer = b; next = other } = cc in
+    (ap (λ (made : Made). made.answer) both, ap (λ (made : Made). made.next) both)
 
 module _ (E : Edition) where
   -- ---- what a step's outcome says of what stood there
@@ -63,9 +66,9 @@ module _ (E : Edition) where
   one_replay {bytes = bytes} (goes_on {next = next} {v = v} {u = u} {a = a} {given = given} {end = end} s rest)
       (goes_on {next = place} {v = x} {u = y} {a = b} {given = others} {end = other} t more) =
       let same = one_step s t in
-      let outcome = same.0 in
-      let answers : a ≡ b = cc in
-      let places : next ≡ place = cc in
+      let made = same_made a b next place same.0 in
+      let answers : a ≡ b = made.0 in
+      let places : next ≡ place = made.1 in
       let there : Replays E bytes place v given end u = subst (λ (p : ℕ). Replays E bytes p v given end u) places rest in
       let again : Replays E bytes place x given end u = subst (λ (z : Words). Replays E bytes place z given end u) same.1 there in
       let later = one_replay {bytes = bytes} {at = place} {w = x} {v = u} {u = y} {given = given} {others = others} {end = end} {other = other} again more in

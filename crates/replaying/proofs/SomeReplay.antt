@@ -24,9 +24,8 @@ use Rattle.answers.specs.declared.Refusal.TheVariants.{BadCount, TableTooShort, 
 use Rattle.answers.specs.Refusals.{number_of}
 use Rattle.calls.specs.declared.Call.{Call}
 use Rattle.calls.specs.declared.Call.TheVariants.{Take, HandBack, SetUp, Reset}
-use Rattle.calls.specs.declared.Answer.{Answer}
-use Rattle.calls.specs.declared.Answer.TheVariants as answer
-use Rattle.calls.specs.Values.{says, Fits}
+use Rattle.calls.specs.Values as answer
+use Rattle.calls.specs.Values.{Answer, says, Fits}
 use Rattle.calling.specs.Makes.{lent_in, Makes}
 use Rattle.calling.proofs.Promised.{said_so, setup_said_so}
 use Rattle.journal.specs.Bytes.{AllBytes}

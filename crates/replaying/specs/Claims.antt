@@ -7,20 +7,16 @@ use Rattle.tables.specs.Setup.{Lent, zeros}
 use Rattle.tables.specs.Calls.{edition32}
 use Rattle.calls.specs.declared.Call.{Call}
 use Rattle.calls.specs.declared.Call.TheVariants.{Take, HandBack, SetUp, Reset}
-use Rattle.calls.specs.declared.Answer.{Answer}
-use Rattle.calls.specs.Values.{says}
+use Rattle.calls.specs.Values.{Answer, says}
 use Rattle.records.specs.InWords.{InPlace, placed_words}
 use Rattle.calling.specs.Makes.{lent_in}
 use Rattle.journal.specs.declared.entry.Broken.{Broken}
-use Rattle.journal.specs.declared.entry.Entry.{Entry}
 use Rattle.journal.specs.Bytes.{AllBytes}
-use Rattle.journal.specs.Reading.{read_at, Ending, ended, broken, Holds}
+use Rattle.journal.specs.Reading.{Entry, read_at, Ending, ended, broken, Holds}
 use Rattle.demands.specs.Demands.{Begun}
 use Rattle.demands.specs.Runs.{Asked, Calling, SettingUp, Done, Run, asked_of}
 use Rattle.demands.specs.Runs as runs
-use Rattle.replaying.specs.declared.Outcome.{Outcome}
-use Rattle.replaying.specs.declared.Outcome.TheVariants.{Answered, AtEnd, BrokenOff}
-use Rattle.replaying.specs.Steps.{Steps}
+use Rattle.replaying.specs.Steps.{Outcome, Answered, AtEnd, BrokenOff, Steps}
 use Rattle.replaying.specs.Meaning.{Standing, no_store, store, answers_of, standing_after}
 use Rattle.replaying.specs.Replays.{Replays, StandsFor}
 

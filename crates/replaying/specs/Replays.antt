@@ -2,13 +2,11 @@
 use Rattle.std.specs.Prelude.{◌≡◌, List, [], ◌∷◌, ℕ}
 use Rattle.ledger.specs.Ledger as ledger
 use Rattle.tables.specs.Words.{Words, Edition}
-use Rattle.calls.specs.declared.Answer.{Answer}
-use Rattle.calls.specs.Values.{says}
+use Rattle.calls.specs.Values.{Answer, says}
 use Rattle.journal.specs.declared.entry.Broken.{Broken}
 use Rattle.journal.specs.Reading.{read_at, Ending, ended, broken}
 use Rattle.demands.specs.Demands.{Begun}
-use Rattle.replaying.specs.declared.Outcome.TheVariants.{Answered, AtEnd, BrokenOff}
-use Rattle.replaying.specs.Steps.{Steps}
+use Rattle.replaying.specs.Steps.{Answered, AtEnd, BrokenOff, Steps}
 use Rattle.replaying.specs.Meaning.{Standing, no_store, store}
 
 -- From this place on and with these words, a replay of the journal gives these answers and ends so, with those words left: each step is lent the words

@@ -7,18 +7,18 @@ ghost use Rattle.journal.specs.Reading.{read_at};
 ghost use Rattle.replaying.specs.Steps.{Steps};
 
 use calls::Answer;
-use journal::entry::{Broken, Entry};
+use journal::entry::{Broken, Record};
 use records::totals::Totals;
 
+// The answer of the call that stood at a place, and the place of the next record.
 #[derive(Clone, Copy)]
-pub enum Outcome {
-    // the answer of the call that stood there, and the place of the next record
-    Answered(Answer, usize),
-    // no byte was left
-    AtEnd,
-    // no call could be read: the replay ends there
-    BrokenOff(Broken),
+pub struct Made {
+    pub answer: Answer,
+    pub next: usize,
 }
+
+// What comes of a place: the call that stood there is made, or none where no byte was left; no call could be read, and the replay ends there.
+pub type Outcome = Result<Option<Made>, Broken>;
 
 // What came of it, and the head's scalars after it.
 #[derive(Clone, Copy)]
@@ -43,21 +43,21 @@ pub fn step(
         (read_at bytes.now at) result.outcome }
 {
     match journal::reading::read(bytes, at) {
-        Entry::Read(call, next) => {
+        Ok(Some(Record { call, next })) => {
             let called = calling::make(call, t, bin_indices, used_bins, nodes, free_nodes);
             let answer = called.answer;
             let totals = called.totals;
             Stepped {
-                outcome: Outcome::Answered(answer, next),
+                outcome: Ok(Some(Made { answer, next })),
                 totals,
             }
         }
-        Entry::End => Stepped {
-            outcome: Outcome::AtEnd,
+        Ok(None) => Stepped {
+            outcome: Ok(None),
             totals: t,
         },
-        Entry::Refused(why) => Stepped {
-            outcome: Outcome::BrokenOff(why),
+        Err(why) => Stepped {
+            outcome: Err(why),
             totals: t,
         },
     }

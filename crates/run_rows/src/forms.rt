@@ -13,27 +13,23 @@ pub enum Forms {
 }
 
 impl Forms {
-    // What the row asks of the form in place.
-    pub fn call_in_place(self, call: Call) -> Call
+    // What the row asks of the form in place; `in_place` and `by_value` of specs are two definitions, and so are these.
+    pub fn call_in_place(self, call: Option<Call>) -> Option<Call>
         ensures { result ≡ in_place self call }
     {
-        let forms = self;
-        match forms {
-            Forms::Both => call,
-            Forms::InPlace => call,
-            Forms::ByValue => Call::Nothing,
+        match self {
+            Forms::Both | Forms::InPlace => call,
+            Forms::ByValue => None,
         }
     }
 
     // What the row asks of the form by value.
-    pub fn call_by_value(self, call: Call) -> Call
+    pub fn call_by_value(self, call: Option<Call>) -> Option<Call>
         ensures { result ≡ by_value self call }
     {
-        let forms = self;
-        match forms {
-            Forms::Both => call,
-            Forms::InPlace => Call::Nothing,
-            Forms::ByValue => call,
+        match self {
+            Forms::Both | Forms::ByValue => call,
+            Forms::InPlace => None,
         }
     }
 
@@ -41,8 +37,7 @@ impl Forms {
     pub fn verdict(self, in_place: Verdict, by_value: Verdict) -> Verdict
         ensures { result ≡ verdict_of self in_place by_value }
     {
-        let forms = self;
-        match forms {
+        match self {
             Forms::Both => call_verdicts::both(in_place, by_value),
             Forms::InPlace => in_place,
             Forms::ByValue => by_value,

@@ -6,26 +6,25 @@ use oracle_lists::rows::Reader;
 use oracle_lists::tally::Verdict;
 
 // How many rows of classes have come just before the next row.
+#[tactic(auto, unfolding(crate::specs::Full::classes_after))]
 pub fn classes_after(row: Reader, classes: u32) -> u32
     ensures { result ≡ classes_after row classes }
 {
-    if row.letter == b'g' {
-        if classes < 256 {
-            return classes + 1;
-        }
+    if row.letter == b'g' && classes < 256 {
+        classes + 1
+    } else {
+        0
     }
-    0
 }
 
 // So a class that the list leaves out shows at the report's last row.
-#[tactic(auto, using(crate::proofs::WholeReports::counted, crate::proofs::WholeReports::miscounted, crate::proofs::WholeReports::of_other_letter))]
+#[tactic(auto, unfolding(crate::specs::Full::whole_report))]
 pub fn whole_report(row: Reader, classes: u32, verdict: Verdict) -> Verdict
     ensures { result ≡ whole_report row classes verdict }
 {
-    if row.letter == b'e' {
-        if row.d != classes {
-            return Verdict::Differs;
-        }
+    if row.letter == b'e' && row.d != classes {
+        Verdict::Differs
+    } else {
+        verdict
     }
-    verdict
 }

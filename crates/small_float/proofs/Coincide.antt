@@ -2,14 +2,12 @@
 use mathlib.Core.Path.{◌≡◌, sym, ap, ◌∙◌}
 use Prim.Native.Nat.{ℕ}
 use native.Mathlib.Omega.{arith}
-use mathlib.Core.Option.{Option}
+use mathlib.Core.Option.{Option as Maybe}
+use Rattle.std.specs.Prelude.{Option, Some, None, Result, Ok, Err}
 use Rattle.basics.proofs.Clash.{clash}
 use Rattle.small_float.specs.declared.Size.{Size}
 use Rattle.small_float.specs.declared.Class.{Class}
-use Rattle.small_float.specs.declared.RoundedUp.{RoundedUp}
-use Rattle.small_float.specs.declared.RoundedUp.TheVariants.{To, NoClass}
-use Rattle.small_float.specs.declared.ext.Smallest.{Smallest}
-use Rattle.small_float.specs.declared.ext.Smallest.TheVariants.{Store, TooLarge}
+use Rattle.small_float.specs.declared.ext.TooLarge.{TooLarge}
 use Rattle.small_float.specs.RoundedUp.{rounded_to}
 use Rattle.small_float.specs.Smallest.{SmallestStore, refusal_of, store_of}
 use Rattle.small_float.specs.OneResult.{OneResult}
@@ -22,23 +20,23 @@ pub one_size : {n : ℕ} (a b : Size) → a.0 ≡ n → b.0 ≡ n → a ≡ b
 one_size a b p q = λ i. record { 0 = (p ∙ sym q) i }
 
 -- what a size is rounded up to is given by the class, or that there is none
-same_rounding : (a b : RoundedUp) → rounded_to a ≡ rounded_to b → a ≡ b
-same_rounding (To c) (To d) e = let number : c.0 ≡ d.0 = cc in ap To (one_class c d number (λ i. d.0))
-same_rounding (To c) NoClass e = clash (cc)
-same_rounding NoClass (To d) e = clash (cc)
-same_rounding NoClass NoClass e = λ i. NoClass
+same_rounding : (a b : Option Class) → rounded_to a ≡ rounded_to b → a ≡ b
+same_rounding (Some c) (Some d) e = let number : c.0 ≡ d.0 = cc in ap Some (one_class c d number (λ i. d.0))
+same_rounding (Some c) None e = clash (cc)
+same_rounding None (Some d) e = clash (cc)
+same_rounding None None e = λ i. None
 
-pub one_rounding : {wanted : Option ℕ} (a b : RoundedUp) → rounded_to a ≡ wanted → rounded_to b ≡ wanted → a ≡ b
+pub one_rounding : {wanted : Maybe ℕ} (a b : Option Class) → rounded_to a ≡ wanted → rounded_to b ≡ wanted → a ≡ b
 one_rounding a b p q = same_rounding a b (p ∙ sym q)
 
 -- an answer to the smallest-store question is given by its number and its figure
-same_answer : (a b : Smallest) → refusal_of a ≡ refusal_of b → store_of a ≡ store_of b → a ≡ b
-same_answer (Store s) (Store t) n f = ap Store (λ i. record { 0 = f i })
-same_answer (Store s) TooLarge n f = absurd (omega arith)
-same_answer TooLarge (Store t) n f = absurd (omega arith)
-same_answer TooLarge TooLarge n f = λ i. TooLarge
+same_answer : (a b : Result Size TooLarge) → refusal_of a ≡ refusal_of b → store_of a ≡ store_of b → a ≡ b
+same_answer (Ok s) (Ok t) n f = ap Ok (λ i. record { 0 = f i })
+same_answer (Ok s) (Err why) n f = absurd (omega arith)
+same_answer (Err why) (Ok t) n f = absurd (omega arith)
+same_answer (Err why) (Err other) n f = λ i. Err record {}
 
-pub one_answer : (object : ℕ) (a b : Smallest) → SmallestStore object a → SmallestStore object b → a ≡ b
+pub one_answer : (object : ℕ) (a b : Result Size TooLarge) → SmallestStore object a → SmallestStore object b → a ≡ b
 one_answer object a b p q = same_answer a b (p.number ∙ sym q.number) (p.figure ∙ sym q.figure)
 
 pub one_result : OneResult

@@ -9,18 +9,11 @@ ghost use Rattle.small_float.specs.RoundedUp.{rounded_to};
 pub mod ext;
 
 // A size in units of the store, and the number of a class. They are two types, so that one cannot stand for the other.
-#[derive(Clone, Copy)]
+#[derive(Clone, Copy, Debug, PartialEq, Eq)]
 pub struct Size(pub u32);
 
-#[derive(Clone, Copy)]
+#[derive(Clone, Copy, Debug, PartialEq, Eq)]
 pub struct Class(pub u32);
-
-// What a size is rounded up to. The greatest sizes have no class: a region of the next one would be of 2^32 units or more, and no store is.
-#[derive(Clone, Copy)]
-pub enum RoundedUp {
-    To(Class),
-    NoClass,
-}
 
 pub const MANTISSA_BITS: u32 = 3;
 
@@ -42,21 +35,22 @@ fn grain_of(size: u32) -> u32
     31 - MANTISSA_BITS - u32::leading_zeros(size | MANTISSA_VALUE)
 }
 
-// The class of a size, rounded up: every size of this class or a higher one, rounded down, is at least as large.
+// The class of a size, rounded up: every size of this class or a higher one, rounded down, is at least as large. The greatest sizes have no class:
+// a region of the next one would be of 2^32 units or more, and no store is.
 // The one branch asks whether there is a class. The sums, here and in the next, have none: a size from 8 on holds 8 to 15 steps of 2^g, and a lower one,
 // whose steps are single units, fewer.
 #[tactic(auto, using(crate::proofs::Rounding::rounded_to_none))]
-pub fn uint_to_float_round_up(size: Size) -> RoundedUp
+pub fn uint_to_float_round_up(size: Size) -> Option<Class>
     ensures { rounded_to result ≡ rounded_up size.0 }
 {
     let s = size.0;
     if GREATEST_SERVED < s {
-        return RoundedUp::NoClass;
+        return None;
     }
     let g = grain_of(s);
     // s / 2^g rounded up is (s - 1) / 2^g rounded down, and 1 more; signed, so that this holds of 0 too
     let steps = ((s as i64 - 1) >> g) + 1;
-    RoundedUp::To(Class(MANTISSA_VALUE * g + steps as u32))
+    Some(Class(MANTISSA_VALUE * g + steps as u32))
 }
 
 // The class of a size, rounded down: where a free region of that size is kept.

@@ -7,24 +7,8 @@
 #![tactic(auto)]
 
 use driving::{by_value, rows};
-use oracle_lists::rows::Reader;
-use streams::STDOUT_FILENO;
+use std::io;
 
-fn answer(row: Reader) {
-    if !row.is_whole() {
-        return;
-    }
-    if rows::is(row, b'v', 4) {
-        return rows::print(by_value::drive(rows::asked(row)));
-    }
-    io::write_all(STDOUT_FILENO, b"a row is v RUN SIZE RECORDS CALLS\n");
-}
-
-fn main() {
-    answer(rows::next());
-    answer(rows::next());
-    answer(rows::next());
-    answer(rows::next());
-    answer(rows::next());
-    answer(rows::next());
+fn main(rt: HostRuntime) -> io::Result<()> {
+    rows::drive_each(&rt, b'v', by_value::drive)
 }

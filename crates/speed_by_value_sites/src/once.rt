@@ -18,5 +18,5 @@ pub fn drive(size: u32, records: u32, length: u32, handle: u32) -> u32 {
     };
     let freed = head.free(span, &mut nodes, &mut free_nodes);
     let answer = freed.answer;
-    answer.number()
+    answers::number(answer)
 }

@@ -9,82 +9,55 @@
 // asks for a stack that holds them once.
 #![tactic(auto)]
 
+use answers::Allocation;
+use driving::held::NO_SPAN;
+use driving::in_place::InPlace;
 use driving::rows::Plan;
-use driving::{again, in_place, rows};
-use oracle_lists::rows::Reader;
-use records::totals::Totals;
-use streams::STDOUT_FILENO;
+use driving::{again, form, rows};
+use std::io;
 
 const FEW: u32 = 1024;
 
-// What a pair of rows asks for; without a pair nothing is done.
+// What a pair of rows asks for.
 #[derive(Clone, Copy)]
 struct Work {
-    pair: bool,
     again: u32,
     setups: u32,
     audits: u32,
     plan: Plan,
 }
 
-fn is_pair(times: Reader, run: Reader) -> bool {
-    if !times.is_whole() {
-        return false;
-    }
-    if !run.is_whole() {
-        return false;
-    }
-    if rows::is(times, b't', 3) {
-        return rows::is(run, b'p', 4);
-    }
-    false
-}
-
-fn next() -> Work {
+// The next two rows, if they are a pair.
+fn next() -> Option<Work> {
     let times = rows::next();
     let run = rows::next();
-    Work {
-        pair: is_pair(times, run),
+    if !times.is_whole()
+        || !run.is_whole()
+        || !rows::is(times, b't', 3)
+        || !rows::is(run, b'p', 4)
+    {
+        return None;
+    }
+    Some(Work {
         again: times.b,
         setups: times.c,
         audits: times.d,
-        plan: rows::asked(run),
-    }
-}
-
-fn audit_on(
-    audits: u32,
-    t: Totals,
-    bin_indices: &[u32; 256],
-    used_bins: &[u8; 32],
-    nodes: &[u32],
-    free_nodes: &[u32],
-    scratch: &mut [u32],
-) {
-    if again::audit(
-        audits,
-        t,
-        bin_indices,
-        used_bins,
-        nodes,
-        free_nodes,
-        scratch,
-    ) {
-        io::write_all(STDOUT_FILENO, b"sound\n");
-    }
+        plan: Plan::from(run),
+    })
 }
 
 fn work_on(
+    rt: &impl Print,
     work: Work,
     nodes: &mut [u32],
     free_nodes: &mut [u32],
-    out: &mut [u32],
+    out: &mut [Allocation],
     scratch: &mut [u32],
-) {
+) -> io::Result<()> {
     let mut bin_indices = [0u32; 256];
     let mut used_bins = [0u8; 32];
     let plan = work.plan;
-    let t = again::set_up(
+    let totals = again::set_up(
         work.setups,
         plan.size,
         plan.records,
@@ -93,81 +66,88 @@ fn work_on(
         nodes,
         free_nodes,
     );
-    let end = in_place::run(
-        plan,
-        t,
-        &mut bin_indices,
-        &mut used_bins,
-        nodes,
-        free_nodes,
-        out,
-    );
-    rows::print(end.draws);
-    let u = end.totals;
-    audit_on(
+    let mut head = InPlace {
+        totals,
+        bin_indices,
+        used_bins,
+    };
+    println!(rt; "{}", form::run(plan, &mut head, nodes, free_nodes, out))?;
+    let t = head.totals;
+    if again::audit(
         work.audits,
-        u,
-        &bin_indices,
-        &used_bins,
+        t,
+        &head.bin_indices,
+        &head.used_bins,
         nodes,
         free_nodes,
         scratch,
-    );
+    ) {
+        println!(rt; "sound")?;
+    }
+    Ok(())
 }
 
-fn lend_few(
+// The tables lent as slices, here where their lengths are no numbers that a proof would count out.
+fn lend<const NODES: usize, const FREE_NODES: usize, const OUT: usize, const SCRATCH: usize>(
+    rt: &impl Print,
     work: Work,
-    nodes: &mut [u32; 8192],
-    free_nodes: &mut [u32; 1024],
-    out: &mut [u32; 2048],
-    scratch: &mut [u32; 1024],
-) {
-    work_on(work, nodes, free_nodes, out, scratch);
+    nodes: &mut [u32; NODES],
+    free_nodes: &mut [u32; FREE_NODES],
+    out: &mut [Allocation; OUT],
+    scratch: &mut [u32; SCRATCH],
+) -> io::Result<()> {
+    work_on(rt, work, nodes, free_nodes, out, scratch)
 }
 
-fn on_few(work: Work) {
+fn on_few(rt: &impl Print, work: Work) -> io::Result<()> {
     let mut nodes = [0u32; 8192];
     let mut free_nodes = [0u32; 1024];
-    let mut out = [0u32; 2048];
+    let mut out = [NO_SPAN; 1024];
     let mut scratch = [0u32; 1024];
-    lend_few(work, &mut nodes, &mut free_nodes, &mut out, &mut scratch);
-}
-
-fn lend_many(
-    work: Work,
-    nodes: &mut [u32; 8388608],
-    free_nodes: &mut [u32; 1048576],
-    out: &mut [u32; 2097152],
-    scratch: &mut [u32; 1048576],
-) {
-    work_on(work, nodes, free_nodes, out, scratch);
+    lend(
+        rt,
+        work,
+        &mut nodes,
+        &mut free_nodes,
+        &mut out,
+        &mut scratch,
+    )
 }
 
 // It calls itself and is not to be put into its caller, where these tables would be on the stack with few records too.
 #[inline(never)]
-fn on_many(work: Work, again: u32) {
+fn on_many(rt: &impl Print, work: Work, again: u32) -> io::Result<()> {
     let mut nodes = [0u32; 8388608];
     let mut free_nodes = [0u32; 1048576];
-    let mut out = [0u32; 2097152];
+    let mut out = [NO_SPAN; 1048576];
     let mut scratch = [0u32; 1048576];
-    lend_many(work, &mut nodes, &mut free_nodes, &mut out, &mut scratch);
+    lend(
+        rt,
+        work,
+        &mut nodes,
+        &mut free_nodes,
+        &mut out,
+        &mut scratch,
+    )?;
     if 0 < again {
-        on_many(work, again - 1);
+        on_many(rt, work, again - 1)?;
     }
+    Ok(())
 }
 
-fn answer(work: Work) {
-    if !work.pair {
-        return;
-    }
+fn answer(rt: &impl Print, work: Work) -> io::Result<()> {
     if FEW < work.plan.records {
-        on_many(work, work.again);
+        on_many(rt, work, work.again)
     } else {
-        on_few(work);
+        on_few(rt, work)
     }
 }
 
-fn main() {
-    answer(next());
-    answer(next());
+fn main(rt: HostRuntime) -> io::Result<()> {
+    for _ in 0..2 {
+        if let Some(work) = next() {
+            answer(&rt, work)?;
+        }
+    }
+    Ok(())
 }

@@ -7,24 +7,8 @@
 #![tactic(auto)]
 
 use driving::{in_place, rows};
-use oracle_lists::rows::Reader;
-use streams::STDOUT_FILENO;
+use std::io;
 
-fn answer(row: Reader) {
-    if !row.is_whole() {
-        return;
-    }
-    if rows::is(row, b'p', 4) {
-        return rows::print(in_place::drive(rows::asked(row)));
-    }
-    io::write_all(STDOUT_FILENO, b"a row is p RUN SIZE RECORDS CALLS\n");
-}
-
-fn main() {
-    answer(rows::next());
-    answer(rows::next());
-    answer(rows::next());
-    answer(rows::next());
-    answer(rows::next());
-    answer(rows::next());
+fn main(rt: HostRuntime) -> io::Result<()> {
+    rows::drive_each(&rt, b'p', in_place::drive)
 }

@@ -26,9 +26,7 @@ fn take_spans(
     free_nodes: &mut [u32; 131072],
 ) -> Totals {
     let mut t = start;
-    let mut i = 0u32;
-    while i < SPANS {
-        i += 1;
+    for _ in 0..SPANS {
         let taken = taking::allocate(t, Size(LENGTH), bin_indices, used_bins, nodes, free_nodes);
         t = taken.totals;
     }

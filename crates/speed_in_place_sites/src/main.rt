@@ -9,34 +9,26 @@
 
 mod audits;
 
+use driving::rows::Plan;
 use driving::{in_place, rows};
 use oracle_lists::rows::Reader;
-use streams::STDOUT_FILENO;
+use std::io;
 
-fn answer(row: Reader) {
-    if !row.is_whole() {
-        return;
+fn answer(rt: &impl Print, row: Reader) -> io::Result<()> {
+    match (row.letter, row.fields) {
+        (b'p', 4) => println!(rt; "{}", in_place::drive(Plan::from(row))),
+        (b'a', 2) if audits::drive(row.c, row.d) => println!(rt; "sound"),
+        (b'a', 2) => Ok(()),
+        _ => println!(rt; "a row is p RUN SIZE RECORDS CALLS or a SETUPS AUDITS"),
     }
-    if rows::is(row, b'p', 4) {
-        return rows::print(in_place::drive(rows::asked(row)));
-    }
-    if rows::is(row, b'a', 2) {
-        if audits::drive(row.c, row.d) {
-            io::write_all(STDOUT_FILENO, b"sound\n");
-        }
-        return;
-    }
-    io::write_all(
-        STDOUT_FILENO,
-        b"a row is p RUN SIZE RECORDS CALLS or a SETUPS AUDITS\n",
-    );
 }
 
-fn main() {
-    answer(rows::next());
-    answer(rows::next());
-    answer(rows::next());
-    answer(rows::next());
-    answer(rows::next());
-    answer(rows::next());
+fn main(rt: HostRuntime) -> io::Result<()> {
+    for _ in 0..rows::MOST_ROWS {
+        let row = rows::next();
+        if row.is_whole() {
+            answer(&rt, row)?;
+        }
+    }
+    Ok(())
 }

@@ -1,12 +1,10 @@
 // A run through a journal: a buffer of records, begun anew where it is full.
-use answers::{Refusal, TakeAnswer};
+use answers::{Allocation, Refusal};
 use calls::{Answer, Call};
 use driving::held;
 use driving::progress::Draws;
 use driving::rows::Plan;
-use journal::entry::Wrote;
 use records::totals::Totals;
-use replaying::Outcome;
 use small_float::Size;
 
 #[derive(Clone, Copy)]
@@ -25,13 +23,11 @@ struct Made {
 
 // The record's place: behind the last one, or at the front where it has no room.
 fn written(call: Call, journal: &mut [u8], at: usize) -> usize {
-    match journal::writing::write(call, journal, at) {
-        Wrote::Before(_) => at,
-        Wrote::NoRoom => {
-            journal::writing::write(call, journal, 0);
-            0
-        }
+    if journal::writing::write(call, journal, at).is_ok() {
+        return at;
     }
+    let _ = journal::writing::write(call, journal, 0);
+    0
 }
 
 // A call written, read and made.
@@ -50,18 +46,13 @@ fn make(
     let totals = stepped.totals;
     let outcome = stepped.outcome;
     match outcome {
-        Outcome::Answered(answer, next) => Made {
+        Ok(Some(replaying::Made { answer, next })) => Made {
             answer,
             totals,
             at: next,
         },
-        Outcome::AtEnd => Made {
-            answer: Answer::Done,
-            totals,
-            at: 0,
-        },
-        Outcome::BrokenOff(_) => Made {
-            answer: Answer::Done,
+        Ok(None) | Err(_) => Made {
+            answer: Ok(None),
             totals,
             at: 0,
         },
@@ -69,11 +60,11 @@ fn make(
 }
 
 // No take is answered with done.
-fn of_take(answer: Answer) -> TakeAnswer {
+fn of_take(answer: Answer) -> Result<Allocation, Refusal> {
     match answer {
-        Answer::Done => TakeAnswer::Refused(Refusal::Unsound),
-        Answer::Granted(span) => TakeAnswer::Granted(span),
-        Answer::Refused(why) => TakeAnswer::Refused(why),
+        Ok(None) => Err(Refusal::Unsound),
+        Ok(Some(span)) => Ok(span),
+        Err(why) => Err(why),
     }
 }
 
@@ -84,7 +75,7 @@ fn step(
     used_bins: &mut [u8; 32],
     nodes: &mut [u32; 1048576],
     free_nodes: &mut [u32; 131072],
-    out: &mut [u32; 262144],
+    out: &mut [Allocation; 131072],
 ) -> State {
     let t = state.totals;
     let before = state.draws;
@@ -144,7 +135,7 @@ fn run(
     journal: &mut [u8; 65536],
     nodes: &mut [u32; 1048576],
     free_nodes: &mut [u32; 131072],
-    out: &mut [u32; 262144],
+    out: &mut [Allocation; 131072],
 ) -> Draws {
     let mut bin_indices = [0u32; 256];
     let mut used_bins = [0u8; 32];
@@ -166,9 +157,7 @@ fn run(
         draws,
         at: made.at,
     };
-    let mut i = 0u32;
-    while i < plan.calls {
-        i += 1;
+    for _ in 0..plan.calls {
         state = step(
             state,
             journal,
@@ -187,6 +176,6 @@ pub fn drive(plan: Plan) -> Draws {
     let mut journal = [0u8; 65536];
     let mut nodes = [0u32; 1048576];
     let mut free_nodes = [0u32; 131072];
-    let mut out = [0u32; 262144];
+    let mut out = [held::NO_SPAN; 131072];
     run(plan, &mut journal, &mut nodes, &mut free_nodes, &mut out)
 }

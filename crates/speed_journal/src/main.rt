@@ -9,24 +9,8 @@
 mod journaled;
 
 use driving::rows;
-use oracle_lists::rows::Reader;
-use streams::STDOUT_FILENO;
+use std::io;
 
-fn answer(row: Reader) {
-    if !row.is_whole() {
-        return;
-    }
-    if rows::is(row, b'p', 4) {
-        return rows::print(journaled::drive(rows::asked(row)));
-    }
-    io::write_all(STDOUT_FILENO, b"a row is p RUN SIZE RECORDS CALLS\n");
-}
-
-fn main() {
-    answer(rows::next());
-    answer(rows::next());
-    answer(rows::next());
-    answer(rows::next());
-    answer(rows::next());
-    answer(rows::next());
+fn main(rt: HostRuntime) -> io::Result<()> {
+    rows::drive_each(&rt, b'p', journaled::drive)
 }

@@ -9,31 +9,25 @@
 
 mod once;
 
+use driving::rows::Plan;
 use driving::{lent, rows};
 use oracle_lists::rows::Reader;
-use streams::STDOUT_FILENO;
+use std::io;
 
-fn answer(row: Reader) {
-    if !row.is_whole() {
-        return;
+fn answer(rt: &impl Print, row: Reader) -> io::Result<()> {
+    match (row.letter, row.fields) {
+        (b'l', 4) => println!(rt; "{}", lent::drive(Plan::from(row))),
+        (b'o', 4) => println!(rt; "refusal {}", once::drive(row.a, row.b, row.c, row.d)),
+        _ => println!(rt; "a row is l RUN SIZE RECORDS CALLS or o SIZE RECORDS LENGTH HANDLE"),
     }
-    if rows::is(row, b'l', 4) {
-        return rows::print(lent::drive(rows::asked(row)));
-    }
-    if rows::is(row, b'o', 4) {
-        return rows::line(b"refusal ", once::drive(row.a, row.b, row.c, row.d));
-    }
-    io::write_all(
-        STDOUT_FILENO,
-        b"a row is l RUN SIZE RECORDS CALLS or o SIZE RECORDS LENGTH HANDLE\n",
-    );
 }
 
-fn main() {
-    answer(rows::next());
-    answer(rows::next());
-    answer(rows::next());
-    answer(rows::next());
-    answer(rows::next());
-    answer(rows::next());
+fn main(rt: HostRuntime) -> io::Result<()> {
+    for _ in 0..rows::MOST_ROWS {
+        let row = rows::next();
+        if row.is_whole() {
+            answer(&rt, row)?;
+        }
+    }
+    Ok(())
 }

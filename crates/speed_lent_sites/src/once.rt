@@ -39,5 +39,5 @@ pub fn drive(size: u32, records: u32, length: u32, handle: u32) -> u32 {
         &mut nodes,
         &mut free_nodes,
     );
-    answer.number()
+    answers::number(answer)
 }

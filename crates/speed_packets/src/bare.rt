@@ -1,5 +1,4 @@
 // The bare work: a span taken and handed back by one allocator, and bytes copied to one place of a store.
-use answers::TakeAnswer;
 use records::totals::Totals;
 use small_float::Size;
 
@@ -15,14 +14,10 @@ fn turn(
     free_nodes: &mut [u32; 700],
 ) -> Totals {
     let taken = taking::allocate(t, size, bin_indices, used_bins, nodes, free_nodes);
-    let given = taken.answer;
     let totals = taken.totals;
-    match given {
-        TakeAnswer::Granted(span) => {
-            let returned = giving::free(totals, span, bin_indices, used_bins, nodes, free_nodes);
-            returned.totals
-        }
-        TakeAnswer::Refused(_) => totals,
+    match taken.answer {
+        Ok(span) => giving::free(totals, span, bin_indices, used_bins, nodes, free_nodes).totals,
+        Err(_) => totals,
     }
 }
 
@@ -38,9 +33,7 @@ fn spans_of(length: u32, turns: u32, nodes: &mut [u32; 5600], free_nodes: &mut [
         free_nodes,
     );
     let mut t = started.totals;
-    let mut i = 0u32;
-    while i < turns {
-        i += 1;
+    for _ in 0..turns {
         t = turn(
             t,
             Size(length),
@@ -60,40 +53,32 @@ pub fn spans(length: u32, turns: u32) -> u8 {
 }
 
 // So many bytes, from a place that goes with the turn, so that no turn can be left out.
-pub fn piece<'a>(from: &'a [u8], turn: u32, n: u32) -> &'a [u8] {
+pub fn piece(from: &[u8], turn: u32, n: u32) -> &[u8] {
     let start = (turn % 1024) as usize;
-    let end = start + (n as usize);
+    let end = start + n as usize;
     if end <= from.len() {
-        return &from[start..end];
+        &from[start..end]
+    } else {
+        &[]
     }
-    &from[0..0]
 }
 
 fn copy(turn: u32, n: u32, from: &[u8], store: &mut [u8]) {
     let new = piece(from, turn, n);
-    if store.len() < n as usize {
-        return;
+    if new.len() <= n as usize && n as usize <= store.len() {
+        parts::fill(store, 0, n, new);
     }
-    if (n as usize) < new.len() {
-        return;
-    }
-    parts::fill(store, 0, n, new);
 }
 
 fn copies_of(length: u32, turns: u32, from: &[u8; 4096], store: &mut [u8; 65536]) {
-    let mut i = 0u32;
-    while i < turns {
-        i += 1;
+    for i in 1..=turns {
         copy(i, length, from, store);
     }
 }
 
 // The first byte of a store.
 pub fn first(bytes: &[u8]) -> u8 {
-    if 0 < bytes.len() {
-        return bytes[0];
-    }
-    0
+    bytes.first().copied().unwrap_or(0)
 }
 
 fn copies_in(length: u32, turns: u32, store: &mut [u8; 65536]) -> u8 {

@@ -13,35 +13,25 @@ mod packed;
 
 use driving::rows;
 use oracle_lists::rows::Reader;
-use streams::STDOUT_FILENO;
+use std::io;
 
 // The kind, and the byte.
-fn told(kind: &[u8], byte: u8) {
-    rows::line(kind, byte as u32);
+fn answer(rt: &impl Print, row: Reader) -> io::Result<()> {
+    match (row.letter, row.fields) {
+        (b't', 2) => println!(rt; "t {}", bare::spans(row.c, row.d)),
+        (b'k', 2) => println!(rt; "k {}", packed::packets(false, row.c, row.d)),
+        (b'c', 2) => println!(rt; "c {}", bare::copies(row.c, row.d)),
+        (b'f', 2) => println!(rt; "f {}", packed::packets(true, row.c, row.d)),
+        _ => println!(rt; "a row is t, k, c or f, LENGTH TURNS"),
+    }
 }
 
-fn answer(row: Reader) {
-    if !row.is_whole() {
-        return;
+fn main(rt: HostRuntime) -> io::Result<()> {
+    for _ in 0..4 {
+        let row = rows::next();
+        if row.is_whole() {
+            answer(&rt, row)?;
+        }
     }
-    if rows::is(row, b't', 2) {
-        return told(b"t ", bare::spans(row.c, row.d));
-    }
-    if rows::is(row, b'k', 2) {
-        return told(b"k ", packed::packets(false, row.c, row.d));
-    }
-    if rows::is(row, b'c', 2) {
-        return told(b"c ", bare::copies(row.c, row.d));
-    }
-    if rows::is(row, b'f', 2) {
-        return told(b"f ", packed::packets(true, row.c, row.d));
-    }
-    io::write_all(STDOUT_FILENO, b"a row is t, k, c or f, LENGTH TURNS\n");
-}
-
-fn main() {
-    answer(rows::next());
-    answer(rows::next());
-    answer(rows::next());
-    answer(rows::next());
+    Ok(())
 }

@@ -1,56 +1,26 @@
 // The same through the packet layer: a packet taken and handed back, or filled.
 use crate::bare;
-use answers::{Allocation, Handle};
-use packets::{Packet, PacketGrant, Store};
+use packets::{Both, Packet};
 use records::totals::Totals;
 use small_float::Size;
 
 // The scalars of both heads, and the packet that is out, if one is.
 #[derive(Clone, Copy)]
 struct Desk {
-    on_chip: Totals,
-    external: Totals,
-    packet: Packet,
-    out: bool,
+    heads: Both<Totals>,
+    packet: Option<Packet>,
 }
 
 #[derive(Clone, Copy)]
 enum Turn {
     Take(Size),
-    Back,
-    Fill,
-}
-
-fn no_packet() -> Packet {
-    Packet {
-        store: Store::OnChip,
-        span: Allocation {
-            offset: 0,
-            metadata: Handle(0),
-        },
-    }
-}
-
-fn granted(answer: PacketGrant, on_chip: Totals, external: Totals) -> Desk {
-    match answer {
-        PacketGrant::Granted(packet) => Desk {
-            on_chip,
-            external,
-            packet,
-            out: true,
-        },
-        PacketGrant::Refused(_) => Desk {
-            on_chip,
-            external,
-            packet: no_packet(),
-            out: false,
-        },
-    }
+    Back(Packet),
+    Fill(Packet),
 }
 
 fn make(
     turn: Turn,
-    desk: Desk,
+    heads: Both<Totals>,
     new: &[u8],
     on_bin_indices: &mut [u32; 256],
     on_used_bins: &mut [u8; 32],
@@ -63,87 +33,81 @@ fn make(
     ex_free_nodes: &mut [u32; 700],
     ex_bytes: &mut [u8; 65536],
 ) -> Desk {
-    let on_chip = desk.on_chip;
-    let external = desk.external;
-    let packet = desk.packet;
     match turn {
         Turn::Take(size) => {
             let taken = packet_taking::take(
                 size,
-                on_chip,
+                heads.on_chip,
                 on_bin_indices,
                 on_used_bins,
                 on_nodes,
                 on_free_nodes,
                 on_bytes,
-                external,
+                heads.external,
                 ex_bin_indices,
                 ex_used_bins,
                 ex_nodes,
                 ex_free_nodes,
                 ex_bytes,
             );
-            let answer = taken.answer;
-            let on_left = taken.on_chip;
-            let ex_left = taken.external;
-            granted(answer, on_left, ex_left)
-        }
-        Turn::Back => {
-            let returned = packet_giving::hand_back(
-                packet,
-                on_chip,
-                on_bin_indices,
-                on_used_bins,
-                on_nodes,
-                on_free_nodes,
-                on_bytes,
-                external,
-                ex_bin_indices,
-                ex_used_bins,
-                ex_nodes,
-                ex_free_nodes,
-                ex_bytes,
-            );
-            let on_left = returned.on_chip;
-            let ex_left = returned.external;
             Desk {
-                on_chip: on_left,
-                external: ex_left,
-                packet,
-                out: false,
+                heads: taken.left,
+                packet: taken.answer.ok(),
             }
         }
-        Turn::Fill => {
-            packet_filling::fill(
+        Turn::Back(packet) => {
+            let returned = packet_giving::hand_back(
                 packet,
-                new,
-                on_chip,
+                heads.on_chip,
                 on_bin_indices,
                 on_used_bins,
                 on_nodes,
                 on_free_nodes,
                 on_bytes,
-                external,
+                heads.external,
                 ex_bin_indices,
                 ex_used_bins,
                 ex_nodes,
                 ex_free_nodes,
                 ex_bytes,
             );
-            desk
+            Desk {
+                heads: returned.left,
+                packet: None,
+            }
+        }
+        Turn::Fill(packet) => {
+            let _ = packet_filling::fill(
+                packet,
+                new,
+                heads.on_chip,
+                on_bin_indices,
+                on_used_bins,
+                on_nodes,
+                on_free_nodes,
+                on_bytes,
+                heads.external,
+                ex_bin_indices,
+                ex_used_bins,
+                ex_nodes,
+                ex_free_nodes,
+                ex_bytes,
+            );
+            Desk {
+                heads,
+                packet: Some(packet),
+            }
         }
     }
 }
 
 // What comes next: a packet is taken where none is out; one that is out is filled, or handed back.
-fn next(out: bool, filling: bool, size: Size) -> Turn {
-    if !out {
-        return Turn::Take(size);
+fn next(packet: Option<Packet>, filling: bool, size: Size) -> Turn {
+    match packet {
+        None => Turn::Take(size),
+        Some(packet) if filling => Turn::Fill(packet),
+        Some(packet) => Turn::Back(packet),
     }
-    if filling {
-        return Turn::Fill;
-    }
-    Turn::Back
 }
 
 // So many of them, in stores of 65,536 bytes with 700 records each.
@@ -179,20 +143,14 @@ fn run(
         ex_free_nodes,
         ex_bytes,
     );
-    let on_chip = started.on_chip;
-    let external = started.external;
     let mut desk = Desk {
-        on_chip,
-        external,
-        packet: no_packet(),
-        out: false,
+        heads: started.left,
+        packet: None,
     };
-    let mut i = 0u32;
-    while i < turns {
-        i += 1;
+    for i in 1..=turns {
         desk = make(
-            next(desk.out, filling, Size(length)),
-            desk,
+            next(desk.packet, filling, Size(length)),
+            desk.heads,
             bare::piece(from, i, length),
             &mut on_bin_indices,
             &mut on_used_bins,

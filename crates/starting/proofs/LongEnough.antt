@@ -5,10 +5,10 @@ use Prim.Native.Nat.{ℕ, ◌≤◌}
 use native.Mathlib.Omega.{arith}
 use Rattle.tables.specs.Words.{Edition}
 use Rattle.tables.specs.Claims.{BadCount}
+use Rattle.std.specs.Prelude.{Result, Ok, Err}
+use Rattle.answers.specs.declared.Refusal.{Refusal}
 use Rattle.answers.proofs.Numbers.{number_means}
 use Rattle.starting.specs.declared.lengths.Lengths.{Lengths}
-use Rattle.starting.specs.declared.lengths.LengthsAnswer.{LengthsAnswer}
-use Rattle.starting.specs.declared.lengths.LengthsAnswer.TheVariants.{Needed as Needs, Refused}
 use Rattle.starting.specs.Lengths.{Needed, LengthsFor, LengthFacts}
 
 same_lengths : (count : ℕ) (l m : Lengths) → Needed count l → Needed count m → l ≡ m
@@ -23,11 +23,11 @@ module _ (E : Edition) (count : ℕ) where
   not_both good (inl h) = omega (arith, good.0)
   not_both good (inr h) = omega (arith, good.1)
 
-  one_answer : (a b : LengthsAnswer) → LengthsFor E count a → LengthsFor E count b → a ≡ b
-  one_answer (Needs l) (Needs m) N M = ap Needs (same_lengths count l m N.1 M.1)
-  one_answer (Needs l) (Refused why) N M = absurd (not_both N.0 M.0)
-  one_answer (Refused why) (Needs m) N M = absurd (not_both M.0 N.0)
-  one_answer (Refused why) (Refused other) N M = ap Refused (number_means.none_shared why other (N.1 ∙ sym M.1))
+  one_answer : (a b : Result Lengths Refusal) → LengthsFor E count a → LengthsFor E count b → a ≡ b
+  one_answer (Ok l) (Ok m) N M = ap Ok (same_lengths count l m N.1 M.1)
+  one_answer (Ok l) (Err why) N M = absurd (not_both N.0 M.0)
+  one_answer (Err why) (Ok m) N M = absurd (not_both M.0 N.0)
+  one_answer (Err why) (Err other) N M = ap Err (number_means.none_shared why other (N.1 ∙ sym M.1))
 
 pub length_facts : (E : Edition) → LengthFacts E
 length_facts E = record {

@@ -1,3 +1,2 @@
--- What setup and reset answer, and the lengths that a count of records needs.
-pub mod Answers
+-- The lengths that a count of records needs.
 pub mod Lengths

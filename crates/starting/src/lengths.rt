@@ -12,28 +12,21 @@ pub struct Lengths {
     pub scratch: usize,
 }
 
-// Refused is a count that setup refuses, with its number.
-#[derive(Clone, Copy)]
-pub enum LengthsAnswer {
-    Needed(Lengths),
-    Refused(Refusal),
-}
-
 // Words of the audit's scratch to a record.
 pub const SCRATCH_WORDS_PER_RECORD: usize = 1;
 
-// The lengths in words; a call refuses a table that is shorter, and neither reads nor writes beyond them.
-pub fn table_lengths(max_allocs: u32) -> LengthsAnswer
+// The lengths in words, or why setup refuses the count; a call refuses a table that is shorter, and neither reads nor writes beyond them.
+pub fn table_lengths(max_allocs: u32) -> Result<Lengths, Refusal>
     ensures { LengthsFor edition32 max_allocs result }
 {
     if max_allocs < 2 {
-        return LengthsAnswer::Refused(Refusal::BadCount);
+        return Err(Refusal::BadCount);
     }
     if gate::MAX_RECORDS < max_allocs {
-        return LengthsAnswer::Refused(Refusal::BadCount);
+        return Err(Refusal::BadCount);
     }
     let n = max_allocs as usize;
-    LengthsAnswer::Needed(Lengths {
+    Ok(Lengths {
         nodes: tables::WORDS_PER_RECORD * n,
         free_nodes: tables::PILE_WORDS_PER_RECORD * n,
         scratch: SCRATCH_WORDS_PER_RECORD * n,

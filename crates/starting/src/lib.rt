@@ -2,30 +2,23 @@
 #![tactic(auto)]
 
 ghost use Rattle.std.specs.Prelude.{◌≡◌, List, ℕ, ◌≤◌, length};
-ghost use Rattle.ledger.specs.Ledger.{refused};
+ghost use Rattle.ledger.specs.Ledger.{done, refused};
 ghost use Rattle.ledger.specs.Calls.{Reset};
 ghost use Rattle.tables.specs.Steps.{insert};
 ghost use Rattle.tables.specs.Setup.{fresh, lent_of, zeros};
 ghost use Rattle.tables.specs.Calls.{edition32};
 ghost use Rattle.tables.specs.Promise.{Promise, SetupPromise};
 ghost use Rattle.answers.specs.Refusals.{number_of};
-ghost use Rattle.records.specs.InWords.{words_of, bound, HasRoom};
+ghost use Rattle.records.specs.InWords.{words_of, bound, HasRoom, outcome_of};
 ghost use Rattle.answers.specs.Answers.{start_says};
-ghost use Rattle.starting.specs.Answers.{outcome_of};
 
-use answers::{Handle, Refusal, StartAnswer};
-use records::gate::Gate;
+use answers::{Handle, Refusal};
+use records::answered::Answered;
 use records::nodes::NONE;
 use records::totals::Totals;
 use small_float::Size;
 
 pub mod lengths;
-
-#[derive(Clone, Copy)]
-pub struct Started {
-    pub answer: StartAnswer,
-    pub totals: Totals,
-}
 
 // The count of records that `new` sets up with: 128 * 1024.
 pub const DEFAULT_MAX_ALLOCS: u32 = 131072;
@@ -77,13 +70,13 @@ fn start_afresh(
 
 // A refused setup gives totals of zeros, whose count of 0 makes every later call on them a refusal. It changes nothing that it was lent: the two arrays
 // are handed on to here so that this is said where it could be broken.
-fn leave_all(why: Refusal, bin_indices: &mut [u32; 256], used_bins: &mut [u8; 32]) -> Started
-    ensures { (nodes pile : List ℕ) → outcome_of result bin_indices.new used_bins.new nodes pile
+fn leave_all(why: Refusal, bin_indices: &mut [u32; 256], used_bins: &mut [u8; 32]) -> Answered<()>
+    ensures { (nodes pile : List ℕ) → outcome_of (λ _. done) result bin_indices.new used_bins.new nodes pile
         ≡ (refused (number_of why), zeros (lent_of bin_indices.old used_bins.old nodes pile)) }
 {
     let zeros = Totals::zeros();
-    Started {
-        answer: StartAnswer::Refused(why),
+    Answered {
+        answer: Err(why),
         totals: zeros,
     }
 }
@@ -103,7 +96,7 @@ pub fn with_max_allocs(
     used_bins: &mut [u8; 32],
     nodes: &mut [u32],
     free_nodes: &mut [u32],
-) -> Started
+) -> Answered<()>
     ensures { SetupPromise edition32 size.0 max_allocs
         (lent_of bin_indices.old used_bins.old nodes.old free_nodes.old)
         (words_of result.totals bin_indices.new used_bins.new nodes.new free_nodes.new)
@@ -111,9 +104,9 @@ pub fn with_max_allocs(
 {
     let units = units_of(size);
     match records::gate::test(max_allocs, nodes, free_nodes, Refusal::BadCount) {
-        Gate::Shut(why) => leave_all(why, bin_indices, used_bins),
-        Gate::Open => Started {
-            answer: StartAnswer::Done,
+        Err(why) => leave_all(why, bin_indices, used_bins),
+        Ok(()) => Answered {
+            answer: Ok(()),
             totals: start_afresh(units, max_allocs, bin_indices, used_bins, nodes, free_nodes),
         },
     }
@@ -126,7 +119,7 @@ pub fn new(
     used_bins: &mut [u8; 32],
     nodes: &mut [u32],
     free_nodes: &mut [u32],
-) -> Started
+) -> Answered<()>
     ensures { SetupPromise edition32 size.0 131072
         (lent_of bin_indices.old used_bins.old nodes.old free_nodes.old)
         (words_of result.totals bin_indices.new used_bins.new nodes.new free_nodes.new)
@@ -149,19 +142,19 @@ pub fn reset(
     used_bins: &mut [u8; 32],
     nodes: &mut [u32],
     free_nodes: &mut [u32],
-) -> Started
+) -> Answered<()>
     ensures { Promise edition32 Reset
         (words_of t bin_indices.old used_bins.old nodes.old free_nodes.old)
         (words_of result.totals bin_indices.new used_bins.new nodes.new free_nodes.new)
         (start_says result.answer) }
 {
     match records::gate::test(t.max_allocs, nodes, free_nodes, Refusal::Unsound) {
-        Gate::Shut(why) => Started {
-            answer: StartAnswer::Refused(why),
+        Err(why) => Answered {
+            answer: Err(why),
             totals: t,
         },
-        Gate::Open => Started {
-            answer: StartAnswer::Done,
+        Ok(()) => Answered {
+            answer: Ok(()),
             totals: start_afresh(
                 t.size,
                 t.max_allocs,

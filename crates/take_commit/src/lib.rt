@@ -11,11 +11,14 @@ ghost use Rattle.records.specs.InWords.{words_of, bound, HasRoom};
 
 use answers::Handle;
 use records::nodes;
+use records::nodes::Field;
 use records::totals::Totals;
 use small_float::Size;
 use take_plan::{Region, Remainder};
 
 // The top of its class leaves its list and becomes live with this size.
+//
+// What `GrantGuards` says is of the totals and the size as well as of the region, so it is no invariant of a region.
 fn make_live(
     t: Totals,
     size: Size,
@@ -33,11 +36,11 @@ fn make_live(
 {
     let r = region.record;
     let none = Handle(nodes::NONE);
-    let next = Handle(nodes::word(nodes, r, nodes::BIN_LIST_NEXT));
+    let next = Handle(nodes::word(nodes, r, Field::BinListNext));
     let c = region.class;
     let u = bins::remove::remove_from_class(bin_indices, used_bins, nodes, t, c, none, next);
-    nodes::put(nodes, r, nodes::DATA_SIZE, size.0);
-    nodes::put(nodes, r, nodes::USED, 1);
+    nodes::put(nodes, r, Field::DataSize, size.0);
+    nodes::put(nodes, r, Field::Used, 1);
     u
 }
 
@@ -85,7 +88,7 @@ pub fn grant_part(
     let left = t.free_storage - size.0;
     let end = region.offset + size.0;
     let r = region.record;
-    let next = Handle(nodes::word(nodes, r, nodes::NEIGHBOR_NEXT));
+    let next = Handle(nodes::word(nodes, r, Field::NeighborNext));
     let u = make_live(t, size, region, bin_indices, used_bins, nodes);
     let v = records::pile::pop(u);
     let w = bins::insert::insert_node_into_bin(

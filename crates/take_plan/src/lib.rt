@@ -13,10 +13,11 @@ ghost use Rattle.take_plan.specs.Plan.{plan_of, Seeks};
 
 use answers::{Handle, Refusal};
 use bitmap::search;
-use bitmap::search::Found;
+use bitmap::search::NotFound;
 use records::nodes;
+use records::nodes::Field;
 use records::totals::Totals;
-use small_float::{Class, RoundedUp, Size};
+use small_float::{Class, Size};
 
 // The region that a take is given: its class, its record, and where it lies.
 #[derive(Clone, Copy)]
@@ -35,21 +36,13 @@ pub struct Remainder {
 
 #[derive(Clone, Copy)]
 pub enum Planned {
-    Stop(Refusal),
     // a region of just the right length
     Whole(Region),
     Split(Region, Remainder),
 }
 
-// What a take comes to before it looks at a region: what stops it, or the class to look in.
-#[derive(Clone, Copy)]
-pub enum Sought {
-    Stop(Refusal),
-    In(Class),
-}
-
 // A remainder needs the record on top of the pile.
-fn plan_spare(t: Totals, region: Region, rest: Size, free_nodes: &[u32]) -> Planned
+fn plan_spare(t: Totals, region: Region, rest: Size, free_nodes: &[u32]) -> Result<Planned, Refusal>
     requires { t.max_allocs ≤ length_of free_nodes.now }
     ensures { plan_of result
         ≡ plan_spare (words_of t [] [] [] free_nodes.now)
@@ -57,23 +50,27 @@ fn plan_spare(t: Totals, region: Region, rest: Size, free_nodes: &[u32]) -> Plan
 {
     let top = t.free_offset;
     if t.max_allocs <= top {
-        return Planned::Stop(Refusal::Unsound);
+        return Err(Refusal::Unsound);
     }
     let m = records::pile::spare(free_nodes, top);
     if t.max_allocs <= m.0 {
-        return Planned::Stop(Refusal::Unsound);
+        return Err(Refusal::Unsound);
     }
-    Planned::Split(
-        region,
-        Remainder {
-            size: rest,
-            record: m,
-        },
-    )
+    let remainder = Remainder {
+        size: rest,
+        record: m,
+    };
+    Ok(Planned::Split(region, remainder))
 }
 
 // The region found is long enough, lies in the store, and the kept total has room for the request.
-fn plan_region(t: Totals, size: Size, region: Region, length: Size, free_nodes: &[u32]) -> Planned
+fn plan_region(
+    t: Totals,
+    size: Size,
+    region: Region,
+    length: Size,
+    free_nodes: &[u32],
+) -> Result<Planned, Refusal>
     requires { t.max_allocs ≤ length_of free_nodes.now }
     ensures { plan_of result
         ≡ plan_region (words_of t [] [] [] free_nodes.now) size.0 region.class.0 region.record.0 length.0 region.offset }
@@ -81,19 +78,19 @@ fn plan_region(t: Totals, size: Size, region: Region, length: Size, free_nodes: 
     let wanted = size.0;
     let long = length.0;
     if long < wanted {
-        return Planned::Stop(Refusal::Unsound);
+        return Err(Refusal::Unsound);
     }
     if t.size < long {
-        return Planned::Stop(Refusal::Unsound);
+        return Err(Refusal::Unsound);
     }
     if t.size - long < region.offset {
-        return Planned::Stop(Refusal::Unsound);
+        return Err(Refusal::Unsound);
     }
     if t.free_storage < wanted {
-        return Planned::Stop(Refusal::Unsound);
+        return Err(Refusal::Unsound);
     }
     if long == wanted {
-        return Planned::Whole(region);
+        return Ok(Planned::Whole(region));
     }
     plan_spare(t, region, Size(long - wanted), free_nodes)
 }
@@ -106,16 +103,16 @@ fn plan_record(
     r: Handle,
     nodes: &[u32],
     free_nodes: &[u32],
-) -> Planned
+) -> Result<Planned, Refusal>
     requires has_room { HasRoom t.max_allocs nodes.now }
     requires max_allocs_in_bounds { t.max_allocs ≤ length_of free_nodes.now }
     ensures { plan_of result ≡ plan_record (words_of t [] [] nodes.now free_nodes.now) size.0 c.0 r.0 }
 {
     if t.max_allocs <= r.0 {
-        return Planned::Stop(Refusal::Unsound);
+        return Err(Refusal::Unsound);
     }
-    let long = Size(nodes::word(nodes, r, nodes::DATA_SIZE));
-    let offset = nodes::word(nodes, r, nodes::DATA_OFFSET);
+    let long = Size(nodes::word(nodes, r, Field::DataSize));
+    let offset = nodes::word(nodes, r, Field::DataOffset);
     let region = Region {
         class: c,
         record: r,
@@ -124,22 +121,23 @@ fn plan_record(
     plan_region(t, size, region, long, free_nodes)
 }
 
-// Spares are asked for before fit, so where both are wanting it is the number of spares.
-fn seek(spares: u32, found: Found) -> Sought
+// What a take comes to before it looks at a region: the class to look in, or what stops it. Spares are asked for before fit, so where both are wanting it is
+// the number of spares.
+fn seek(spares: u32, found: Result<Class, NotFound>) -> Result<Class, Refusal>
     ensures { Seeks spares found result }
 {
     if spares == 0 {
-        return Sought::Stop(Refusal::NoSpareRecord);
+        return Err(Refusal::NoSpareRecord);
     }
     match found {
-        Found::Lowest(c) => Sought::In(c),
-        Found::NoClass => Sought::Stop(Refusal::NoRegion),
-        Found::BadBits => Sought::Stop(Refusal::Unsound),
+        Ok(c) => Ok(c),
+        Err(NotFound::NoClass) => Err(Refusal::NoRegion),
+        Err(NotFound::BadBits) => Err(Refusal::Unsound),
     }
 }
 
 // The class from which a take searches upward: every region from there on is long enough.
-fn searched_from(size: Size) -> RoundedUp
+fn searched_from(size: Size) -> Option<Class>
     ensures { rounded_to result ≡ rounded_up size.0 }
 {
     small_float::uint_to_float_round_up(size)
@@ -156,9 +154,6 @@ fn without_class(free_offset: u32) -> Refusal
 }
 
 // What a take of this size finds.
-//
-// What the search found is matched where it is found. Handed on through a function that has another way out, its two words are packed into one and taken
-// apart again at every take.
 pub fn plan(
     t: Totals,
     size: Size,
@@ -166,23 +161,17 @@ pub fn plan(
     used_bins: &[u8; 32],
     nodes: &[u32],
     free_nodes: &[u32],
-) -> Planned
+) -> Result<Planned, Refusal>
     requires has_room { HasRoom t.max_allocs nodes.now }
     requires max_allocs_in_bounds { t.max_allocs ≤ length_of free_nodes.now }
     ensures { plan_of result
         ≡ plan_take (words_of t bin_indices.now used_bins.now nodes.now free_nodes.now) size.0 }
 {
-    match searched_from(size) {
-        RoundedUp::To(least) => {
-            let found = search::find_class(used_bins, t.used_bins_top, least);
-            match seek(t.free_offset, found) {
-                Sought::Stop(why) => Planned::Stop(why),
-                Sought::In(c) => {
-                    let top = bin_indices[c.0 as usize];
-                    plan_record(t, size, c, Handle(top), nodes, free_nodes)
-                }
-            }
-        }
-        RoundedUp::NoClass => Planned::Stop(without_class(t.free_offset)),
-    }
+    let Some(least) = searched_from(size) else {
+        return Err(without_class(t.free_offset));
+    };
+    let found = search::find_class(used_bins, t.used_bins_top, least);
+    let c = seek(t.free_offset, found)?;
+    let top = bin_indices[c.0 as usize];
+    plan_record(t, size, c, Handle(top), nodes, free_nodes)
 }

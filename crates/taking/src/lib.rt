@@ -12,28 +12,22 @@ ghost use Rattle.records.specs.InWords.{words_of, HasRoom};
 ghost use Rattle.answers.specs.Answers.{take_says};
 ghost use Rattle.taking.specs.Answers.{TakesAsPlanned};
 
-use answers::{Allocation, Refusal, TakeAnswer};
-use records::gate::Gate;
+use answers::{Allocation, Refusal};
+use records::answered::Answered;
 use records::totals::Totals;
 use small_float::Size;
 use take_plan::{Planned, Region};
 
-#[derive(Clone, Copy)]
-pub struct Taken {
-    pub answer: TakeAnswer,
-    pub totals: Totals,
-}
-
-fn refuse(why: Refusal, t: Totals) -> Taken
+fn refuse(why: Refusal, t: Totals) -> Answered<Allocation>
     ensures { (take_says result.answer ≡ refused (number_of why)) × (result.totals ≡ t) }
 {
-    Taken {
-        answer: TakeAnswer::Refused(why),
+    Answered {
+        answer: Err(why),
         totals: t,
     }
 }
 
-fn grant(region: Region, t: Totals) -> Taken
+fn grant(region: Region, t: Totals) -> Answered<Allocation>
     ensures { (take_says result.answer ≡ granted region.offset region.record.0) × (result.totals ≡ t) }
 {
     let record = region.record;
@@ -41,8 +35,8 @@ fn grant(region: Region, t: Totals) -> Taken
         offset: region.offset,
         metadata: record,
     };
-    Taken {
-        answer: TakeAnswer::Granted(span),
+    Answered {
+        answer: Ok(span),
         totals: t,
     }
 }
@@ -55,7 +49,7 @@ fn take(
     used_bins: &mut [u8; 32],
     nodes: &mut [u32],
     free_nodes: &[u32],
-) -> Taken
+) -> Answered<Allocation>
     requires has_room { HasRoom t.max_allocs nodes.old }
     requires max_allocs_in_bounds { t.max_allocs ≤ length free_nodes.now }
     ensures { TakesAsPlanned size.0
@@ -64,12 +58,12 @@ fn take(
         (take_says result.answer) }
 {
     match take_plan::plan(t, size, bin_indices, used_bins, nodes, free_nodes) {
-        Planned::Stop(why) => refuse(why, t),
-        Planned::Whole(region) => {
+        Err(why) => refuse(why, t),
+        Ok(Planned::Whole(region)) => {
             let u = take_commit::grant_whole(t, size, region, bin_indices, used_bins, nodes);
             grant(region, u)
         }
-        Planned::Split(region, rest) => {
+        Ok(Planned::Split(region, rest)) => {
             let u = take_commit::grant_part(t, size, region, rest, bin_indices, used_bins, nodes);
             grant(region, u)
         }
@@ -84,14 +78,14 @@ pub fn allocate(
     used_bins: &mut [u8; 32],
     nodes: &mut [u32],
     free_nodes: &[u32],
-) -> Taken
+) -> Answered<Allocation>
     ensures { Promise edition32 (Take (request_of size))
         (words_of t bin_indices.old used_bins.old nodes.old free_nodes.now)
         (words_of result.totals bin_indices.new used_bins.new nodes.new free_nodes.now)
         (take_says result.answer) }
 {
     match records::gate::test(t.max_allocs, nodes, free_nodes, Refusal::Unsound) {
-        Gate::Shut(why) => refuse(why, t),
-        Gate::Open => take(t, size, bin_indices, used_bins, nodes, free_nodes),
+        Err(why) => refuse(why, t),
+        Ok(()) => take(t, size, bin_indices, used_bins, nodes, free_nodes),
     }
 }

@@ -6,7 +6,6 @@ use Rattle.tables.specs.Words.{Words}
 use Rattle.tables.specs.Setup.{Lent, lent_of, tables_alone, setup_words}
 use Rattle.tables.specs.Calls.{edition32, answer_words}
 use Rattle.call_values.specs.declared.answer.Answer.{Answer}
-use Rattle.call_values.specs.declared.answer.Answer.TheVariants.{Nothing}
 use Rattle.call_values.specs.declared.call.Call.{Call}
 use Rattle.call_values.specs.declared.call.Call.TheVariants as call
 use Rattle.telling.specs.Told.{told, told_as, class_in, held_in}
@@ -31,4 +30,3 @@ made lends (call.SizeOf offset number) w = told_by (answer_words edition32 (ledg
 made lends call.Report w = told_by (answer_words edition32 (ledger-calls.Ask ledger-calls.Report) w)
 made lends (call.ClassOf class) w = (told_as (class_in class) (answer_words edition32 (ledger-calls.Ask ledger-calls.FullReport) w).0, w)
 made lends call.ClassesHeld w = (told_as held_in (answer_words edition32 (ledger-calls.Ask ledger-calls.FullReport) w).0, w)
-made lends call.Nothing w = (Nothing, w)

@@ -5,97 +5,83 @@
 // place, with two by value. The tables take 36 MiB, so tools/long-run asks for a stack that holds them.
 #![tactic(auto)]
 
-mod list;
+mod runs;
 
-use list::runs::Comparison;
-use list::{outcome, runs};
 use run_rows::forms::Forms;
 use std::env::{Env, FillError};
+use std::io;
 
 // The form that is left out is lent tables of one word, which nothing touches.
-fn compare_in_place(nodes: &mut [u32; 8388608], free_nodes: &mut [u32; 1048576]) -> Comparison {
-    let mut bin_indices = [0u32; 256];
-    let mut used_bins = [0u8; 32];
-    let mut no_nodes = [0u32; 1];
-    let mut no_free_nodes = [0u32; 1];
+fn compare_in_place(
+    rt: &(impl Input + Print),
+    nodes: &mut [u32; 8388608],
+    free_nodes: &mut [u32; 1048576],
+) -> io::Result<()> {
     runs::compare_input(
+        rt,
         Forms::InPlace,
-        &mut bin_indices,
-        &mut used_bins,
         nodes,
         free_nodes,
-        &mut no_nodes,
-        &mut no_free_nodes,
+        &mut [0; 1],
+        &mut [0; 1],
     )
 }
 
-fn compare_by_value(nodes: &mut [u32; 8388608], free_nodes: &mut [u32; 1048576]) -> Comparison {
-    let mut bin_indices = [0u32; 256];
-    let mut used_bins = [0u8; 32];
-    let mut no_nodes = [0u32; 1];
-    let mut no_free_nodes = [0u32; 1];
+fn compare_by_value(
+    rt: &(impl Input + Print),
+    nodes: &mut [u32; 8388608],
+    free_nodes: &mut [u32; 1048576],
+) -> io::Result<()> {
     runs::compare_input(
+        rt,
         Forms::ByValue,
-        &mut bin_indices,
-        &mut used_bins,
-        &mut no_nodes,
-        &mut no_free_nodes,
+        &mut [0; 1],
+        &mut [0; 1],
         nodes,
         free_nodes,
     )
 }
 
-fn compare_both(
-    nodes: &mut [u32; 8192],
-    free_nodes: &mut [u32; 1024],
-    value_nodes: &mut [u32; 8192],
-    value_free_nodes: &mut [u32; 1024],
-) -> Comparison {
-    let mut bin_indices = [0u32; 256];
-    let mut used_bins = [0u8; 32];
-    runs::compare_input(
-        Forms::Both,
-        &mut bin_indices,
-        &mut used_bins,
-        nodes,
-        free_nodes,
-        value_nodes,
-        value_free_nodes,
-    )
-}
-
-fn print_list() {
+fn print_list(rt: &(impl Input + Print)) -> io::Result<()> {
     let mut nodes = [0u32; 8192];
     let mut free_nodes = [0u32; 1024];
     let mut value_nodes = [0u32; 8192];
     let mut value_free_nodes = [0u32; 1024];
-    outcome::print_outcome(compare_both(
+    runs::compare_input(
+        rt,
+        Forms::Both,
         &mut nodes,
         &mut free_nodes,
         &mut value_nodes,
         &mut value_free_nodes,
-    ));
+    )
 }
 
 // Long runs: with one word in place, with more by value.
-fn print_long_on(words: usize, nodes: &mut [u32; 8388608], free_nodes: &mut [u32; 1048576]) {
+fn print_long_on(
+    rt: &(impl Input + Print),
+    words: usize,
+    nodes: &mut [u32; 8388608],
+    free_nodes: &mut [u32; 1048576],
+) -> io::Result<()> {
     if 1 < words {
-        outcome::print_outcome(compare_by_value(nodes, free_nodes));
+        compare_by_value(rt, nodes, free_nodes)
     } else {
-        outcome::print_outcome(compare_in_place(nodes, free_nodes));
+        compare_in_place(rt, nodes, free_nodes)
     }
 }
 
 // The input is one list, of which words beyond the second find nothing left. That the function calls itself for these is for the compiler, which puts
 // no such function into its caller, and is told so too: there the tables would be on the stack with the list of the gate too.
 #[inline(never)]
-fn print_long(words: usize) {
+fn print_long(rt: &(impl Input + Print), words: usize) -> io::Result<()> {
     let mut nodes = [0u32; 8388608];
     let mut free_nodes = [0u32; 1048576];
-    print_long_on(words, &mut nodes, &mut free_nodes);
+    print_long_on(rt, words, &mut nodes, &mut free_nodes)?;
     if 2 < words {
-        print_long(words - 1);
+        print_long(rt, words - 1)?;
     }
+    Ok(())
 }
 
 // How many arguments there are. The first of all is the program's own name, and the list ends where one is missing.
@@ -110,11 +96,11 @@ fn argument_count(env: &impl Env) -> usize {
     count
 }
 
-fn main(rt: HostRuntime) {
+fn main(rt: HostRuntime) -> io::Result<()> {
     let arguments = argument_count(&rt);
     if 0 < arguments {
-        print_long(arguments);
+        print_long(&rt, arguments)
     } else {
-        print_list();
+        print_list(&rt)
     }
 }

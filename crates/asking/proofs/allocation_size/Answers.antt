@@ -1,6 +1,7 @@
 -- Shut out by the gate, or let in; a live record is below the count. Assumes nothing.
 use mathlib.Core.Path.{refl, sym, ap, ◌∙◌}
 use mathlib.Core.List.{[]}
+use Rattle.std.proofs.lemmas.Result.{err_from_is_err_and}
 use Rattle.ledger.specs.Ledger.{length_is}
 use Rattle.ledger.specs.Calls.{SizeOf, Ask}
 use Rattle.tables.specs.Questions.{told_by}
@@ -18,12 +19,12 @@ use Rattle.asking.proofs.allocation_size.Goals as goal
 
 pub is_live-requires : goal.is_live-requires
 is_live-requires c =
-    (has_room edition32 (words_of c.args.t [] [] c.args.nodes.now c.args.free_nodes.now) c.test.ensures c.in-Open.is).nodes_room
+    (has_room edition32 (words_of c.args.t [] [] c.args.nodes.now c.args.free_nodes.now) c.test.ensures c.in_ok-test.was).nodes_room
 
 pub word-requires : goal.word-requires
 word-requires c =
-    let room = has_room edition32 (words_of c.args.t [] [] c.args.nodes.now c.args.free_nodes.now) c.test.ensures c.in-Open.is in
-    let low = live_low _ _ _ (sym c.is_live.ensures ∙ c.if-is_live.true) in
+    let room = has_room edition32 (words_of c.args.t [] [] c.args.nodes.now c.args.free_nodes.now) c.test.ensures c.in_ok-test.was in
+    let low = live_low _ _ _ (sym c.is_live.ensures ∙ c.if-not-is_live.false) in
     omega (arith, room.nodes_room, low)
 
 pub returns-then-word-span : goal.returns-then-word-span
@@ -32,36 +33,37 @@ returns-then-word-span c =
     let w = words_of c.args.t c.args.bin_indices.now c.args.used_bins.now c.args.nodes.now c.args.free_nodes.now in
     let span = token_of c.args.span in
     promise edition32 (Ask (SizeOf _)) _
-    (let_in edition32 (Ask (SizeOf _)) _ (opened edition32 _ c.test.ensures c.in-Open.is)
-    (outcome_is (tells_8 w span (sym c.is_live.ensures ∙ c.if-is_live.true) (λ e. c.if-word-span.true (c.word.ensures ∙ e))) refl))
+    (let_in edition32 (Ask (SizeOf _)) _ (opened edition32 _ c.test.ensures c.in_ok-test.was)
+    (outcome_is (tells_8 w span (sym c.is_live.ensures ∙ c.if-not-is_live.false) (λ e. c.if-word-span.true (c.word.ensures ∙ e))) refl))
 
-pub word-requires-then-is_live : goal.word-requires-then-is_live
-word-requires-then-is_live c =
-    let room = has_room edition32 (words_of c.args.t [] [] c.args.nodes.now c.args.free_nodes.now) c.test.ensures c.in-Open.is in
-    let low = live_low _ _ _ (sym c.is_live.ensures ∙ c.if-is_live.true) in
+pub word-requires-2 : goal.word-requires-2
+word-requires-2 c =
+    let room = has_room edition32 (words_of c.args.t [] [] c.args.nodes.now c.args.free_nodes.now) c.test.ensures c.in_ok-test.was in
+    let low = live_low _ _ _ (sym c.is_live.ensures ∙ c.if-not-is_live.false) in
     omega (arith, room.nodes_room, low)
 
-pub returns-then-is_live : goal.returns-then-is_live
+pub returns : goal.returns
 unfolding behind told_by
-returns-then-is_live c =
+returns c =
     let w = words_of c.args.t c.args.bin_indices.now c.args.used_bins.now c.args.nodes.now c.args.free_nodes.now in
     let span = token_of c.args.span in
     promise edition32 (Ask (SizeOf _)) _
-    (let_in edition32 (Ask (SizeOf _)) _ (opened edition32 _ c.test.ensures c.in-Open.is)
+    (let_in edition32 (Ask (SizeOf _)) _ (opened edition32 _ c.test.ensures c.in_ok-test.was)
     (outcome_is
-    (ap length_is c.word-then-is_live.ensures
-    ∙ tells_length w span (sym c.is_live.ensures ∙ c.if-is_live.true) (sym c.word.ensures ∙ c.if-word-span.false))
+    (ap length_is c.word-2.ensures
+    ∙ tells_length w span (sym c.is_live.ensures ∙ c.if-not-is_live.false) (sym c.word.ensures ∙ c.if-word-span.false))
     refl))
 
-pub returns-in-Shut : goal.returns-in-Shut
-returns-in-Shut c =
-    promise edition32 (Ask (SizeOf _)) _ (shut_out edition32 _ (Ask (SizeOf _)) c.test.ensures c.in-Shut.is)
+pub returns-in_err-test : goal.returns-in_err-test
+returns-in_err-test c =
+    let left = err_from_is_err_and c.from_residual.result c.from_residual.ensures.1 in
+    rw (left.1, left.2) (promise edition32 (Ask (SizeOf _)) _ (shut_out edition32 _ (Ask (SizeOf _)) c.test.ensures c.in_err-test.was))
 
-pub returns-else-is_live : goal.returns-else-is_live
+pub returns-then-not-is_live : goal.returns-then-not-is_live
 unfolding behind told_by
-returns-else-is_live c =
+returns-then-not-is_live c =
     let w = words_of c.args.t c.args.bin_indices.now c.args.used_bins.now c.args.nodes.now c.args.free_nodes.now in
     let span = token_of c.args.span in
     promise edition32 (Ask (SizeOf _)) _
-    (let_in edition32 (Ask (SizeOf _)) _ (opened edition32 _ c.test.ensures c.in-Open.is)
-    (outcome_is (tells_5 w span (sym c.is_live.ensures ∙ c.if-is_live.false)) refl))
+    (let_in edition32 (Ask (SizeOf _)) _ (opened edition32 _ c.test.ensures c.in_ok-test.was)
+    (outcome_is (tells_5 w span (sym c.is_live.ensures ∙ c.if-not-is_live.true)) refl))

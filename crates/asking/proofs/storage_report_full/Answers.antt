@@ -13,23 +13,23 @@ use Rattle.asking.proofs.storage_report_full.Goals as goal
 
 pub count-requires : goal.count-requires
 count-requires c =
-    (has_room edition32 (words_of c.args.t [] [] c.args.nodes.now c.args.free_nodes.now) c.test.ensures c.in-Open.is).nodes_room
+    (has_room edition32 (words_of c.args.t [] [] c.args.nodes.now c.args.free_nodes.now) c.test.ensures c.in-Ok.is).nodes_room
 
-pub returns-in-Shut : goal.returns-in-Shut
-returns-in-Shut c =
+pub returns-in-Err : goal.returns-in-Err
+returns-in-Err c =
     record {
       exact = promise edition32 (Ask FullReport) _
-          (outcome_is c.refuse.ensures.0 refl ∙ shut_out edition32 _ (Ask FullReport) c.test.ensures c.in-Shut.is);
+          (outcome_is c.refuse.ensures.0 refl ∙ shut_out edition32 _ (Ask FullReport) c.test.ensures c.in-Err.is);
       figures = c.refuse.ensures.1;
       places = c.refuse.ensures.2;
     }
 
-pub returns-in-Open : goal.returns-in-Open
+pub returns-in-Ok : goal.returns-in-Ok
 unfolding behind told_by full_report_of
-returns-in-Open c =
+returns-in-Ok c =
     record {
       exact = promise edition32 (Ask FullReport) _
-          (let_in edition32 (Ask FullReport) _ (opened edition32 _ c.test.ensures c.in-Open.is)
+          (let_in edition32 (Ask FullReport) _ (opened edition32 _ c.test.ensures c.in-Ok.is)
           (outcome_is
           (c.count.ensures.exact c.args.used_bins.now c.args.free_nodes.now)
           refl));

@@ -3,4 +3,4 @@ use Rattle.telling.proofs.Promised.{told_so}
 use Rattle.asking_by_value.proofs.report.Goals as goal
 
 pub returns : goal.returns
-returns c = told_so c.of_report.ensures c.storage_report-given.ensures.exact
+returns c = told_so c.of_answer.ensures c.storage_report-given.ensures.exact

@@ -7,17 +7,17 @@ use Rattle.back_plan.proofs.beside.Goals as goal
 pub word-requires : goal.word-requires
 word-requires c =
     let low = free_below _ _ _ (sym c.is_free.ensures ∙ c.if-is_free.true) in
-    record { in_table = omega (arith, low, c.requires); k_bound = omega (arith, low, c.requires) }
+    omega (arith, low, c.requires)
 
 pub word-requires-then-is_free : goal.word-requires-then-is_free
 word-requires-then-is_free c =
     let low = free_below _ _ _ (sym c.is_free.ensures ∙ c.if-is_free.true) in
-    record { in_table = omega (arith, low, c.requires); k_bound = omega (arith, low, c.requires) }
+    omega (arith, low, c.requires)
 
 pub word-requires-then-is_free-2 : goal.word-requires-then-is_free-2
 word-requires-then-is_free-2 c =
     let low = free_below _ _ _ (sym c.is_free.ensures ∙ c.if-is_free.true) in
-    record { in_table = omega (arith, low, c.requires); k_bound = omega (arith, low, c.requires) }
+    omega (arith, low, c.requires)
 
 pub returns-then-is_free : goal.returns-then-is_free
 returns-then-is_free c =

@@ -13,7 +13,7 @@ use Rattle.back_plan.proofs.plan.Goals as goal
 pub word-offset-requires : goal.word-offset-requires
 word-offset-requires c =
     let low = live_low _ _ _ (sym c.is_live.ensures ∙ c.if-is_live.true) in
-    record { in_table = omega (arith, low, c.requires); k_bound = omega (arith, low, c.requires) }
+    omega (arith, low, c.requires)
 
 pub returns-then-offset-span : goal.returns-then-offset-span
 returns-then-offset-span c =
@@ -27,17 +27,17 @@ returns-then-offset-span c =
 pub word-requires : goal.word-requires
 word-requires c =
     let low = live_low _ _ _ (sym c.is_live.ensures ∙ c.if-is_live.true) in
-    record { in_table = omega (arith, low, c.requires); k_bound = omega (arith, low, c.requires) }
+    omega (arith, low, c.requires)
 
 pub word-requires-then-is_live : goal.word-requires-then-is_live
 word-requires-then-is_live c =
     let low = live_low _ _ _ (sym c.is_live.ensures ∙ c.if-is_live.true) in
-    record { in_table = omega (arith, low, c.requires); k_bound = omega (arith, low, c.requires) }
+    omega (arith, low, c.requires)
 
 pub word-requires-then-is_live-2 : goal.word-requires-then-is_live-2
 word-requires-then-is_live-2 c =
     let low = live_low _ _ _ (sym c.is_live.ensures ∙ c.if-is_live.true) in
-    record { in_table = omega (arith, low, c.requires); k_bound = omega (arith, low, c.requires) }
+    omega (arith, low, c.requires)
 
 pub returns-then-is_live : goal.returns-then-is_live
 unfolding plan_merged

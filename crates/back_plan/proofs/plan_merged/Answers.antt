@@ -42,11 +42,11 @@ returns c =
         c.on_side.ensures.1,
         c.on_side-2.ensures.0,
         c.on_side-2.ensures.1,
-        c.merged_under-m.ensures.1,
-        c.merged_under-m.ensures.2,
-        c.merged_under-m.ensures.3,
-        c.merged_under-m.ensures.4,
-        c.merged_under-m.ensures.5,
+        c.merged_under.ensures.1,
+        c.merged_under.ensures.2,
+        c.merged_under.ensures.3,
+        c.merged_under.ensures.4,
+        c.merged_under.ensures.5,
       );
-      under_record = ap (λ (h : Handle). h.0) c.merged_under-m.ensures.0;
+      under_record = ap (λ (h : Handle). h.0) c.merged_under.ensures.0;
     }

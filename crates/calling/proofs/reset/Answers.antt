@@ -3,4 +3,4 @@ use Rattle.calling.proofs.Promised.{said_so}
 use Rattle.calling.proofs.reset.Goals as goal
 
 pub returns : goal.returns
-returns c = record { promised = said_so c.of_start.ensures c.reset-started.ensures }
+returns c = record { promised = said_so c.of_done.ensures c.reset-started.ensures }

@@ -1,5 +1,4 @@
 -- By the call that came. Assumes nothing.
-use mathlib.Core.Path.{refl}
 use Rattle.telling.specs.Made.{by_value}
 use Rattle.telling.proofs.Promised.{as_came}
 use Rattle.calling_by_value.proofs.make.Goals as goal
@@ -30,6 +29,3 @@ returns-in-ClassOf c = as_came by_value _ c.in-ClassOf.is c.class_of.ensures
 
 pub returns-in-ClassesHeld : goal.returns-in-ClassesHeld
 returns-in-ClassesHeld c = as_came by_value _ c.in-ClassesHeld.is c.classes_held.ensures
-
-pub returns-in-Nothing : goal.returns-in-Nothing
-returns-in-Nothing c = as_came by_value _ c.in-Nothing.is refl

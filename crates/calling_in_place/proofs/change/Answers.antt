@@ -4,4 +4,4 @@ use Rattle.calling_in_place.proofs.change.Goals as goal
 
 pub returns : goal.returns
 returns c =
-    change_told c.args.call c.of_change.ensures c.make-made.ensures
+    change_told c.args.call c.of_answer.ensures c.make-made.ensures

@@ -1,5 +1,4 @@
 -- By the call that came. Assumes nothing.
-use mathlib.Core.Path.{refl}
 use Rattle.telling.specs.Made.{in_place}
 use Rattle.telling.proofs.Promised.{as_came}
 use Rattle.calling_in_place.proofs.make.Goals as goal
@@ -31,6 +30,3 @@ returns-in-ClassOf c = as_came in_place _ c.in-ClassOf.is c.class_of.ensures
 
 pub returns-in-ClassesHeld : goal.returns-in-ClassesHeld
 returns-in-ClassesHeld c = as_came in_place _ c.in-ClassesHeld.is c.classes_held.ensures
-
-pub returns-in-Nothing : goal.returns-in-Nothing
-returns-in-Nothing c = as_came in_place _ c.in-Nothing.is refl

@@ -3,4 +3,4 @@ use Rattle.telling.proofs.Promised.{told_so}
 use Rattle.calling_in_place.proofs.size_of.Goals as goal
 
 pub returns : goal.returns
-returns c = told_so c.of_size.ensures c.allocation_size-given.ensures.exact
+returns c = told_so c.of_answer.ensures c.allocation_size-given.ensures.exact

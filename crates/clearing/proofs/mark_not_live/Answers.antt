@@ -5,25 +5,24 @@ use Rattle.tables.specs.Setup.{wiped}
 use Rattle.tables.proofs.Wiped.{length_wiped}
 use Rattle.tables.proofs.Turns.{wiped_more}
 use native.Mathlib.Omega.{arith}
-use borrow.Author.Rules.{rules}
 use Rattle.clearing.proofs.mark_not_live.Goals as goal
 
 pub loop-r-init : goal.loop-r-init
 unfolding wiped
-loop-r-init c = (search rules, refl)
+loop-r-init c = refl
 
 pub put-requires : goal.put-requires
 put-requires c =
-    omega (arith, ap length c.loop-r.invariant.1, length_wiped c.loop-r.r c.args.nodes.now)
+    omega (arith, ap length c.loop-r.invariant, length_wiped c.loop-r.r c.args.nodes.now)
 
 pub loop-r-preserved : goal.loop-r-preserved
 loop-r-preserved c =
-    (omega arith, rw (wiped_more, c.put.ensures, c.loop-r.invariant.1))
+    rw (wiped_more, c.put.ensures, c.loop-r.invariant)
 
 pub shape_of-nodes : goal.shape_of-nodes
-shape_of-nodes c = ap length c.loop-r.invariant.1 ∙ length_wiped _ _
+shape_of-nodes c = ap length c.loop-r.invariant ∙ length_wiped _ _
 
 pub returns : goal.returns
 returns c =
     let e : c.loop-r.r ≡ c.args.max_allocs = omega arith in
-    rw (← e) c.loop-r.invariant.1
+    rw (← e) c.loop-r.invariant

@@ -1,11 +1,7 @@
 -- Below r each record is marked not live. Assumes nothing.
-use Prim.Native.Nat.{◌≤◌, ◌-◌}
 use mathlib.Core.Path.{◌≡◌}
 use Rattle.tables.specs.Setup.{wiped}
 use Rattle.clearing.proofs.mark_not_live.Given as goal
 
 abbrev pub invariant-loop-r : goal.invariant-loop-r
-invariant-loop-r l = (l.r ≤ l.max_allocs) × (l.nodes ≡ wiped l.r l.initial.nodes)
-
-abbrev pub decreases-loop-r : goal.decreases-loop-r
-decreases-loop-r l = l.max_allocs - l.r
+invariant-loop-r l = l.nodes ≡ wiped l.r l.initial.nodes

@@ -6,25 +6,24 @@ use Rattle.tables.specs.Setup.{piled}
 use Rattle.tables.proofs.Wiped.{length_piled}
 use Rattle.tables.proofs.Turns.{piled_more}
 use native.Mathlib.Omega.{arith}
-use borrow.Author.Rules.{rules}
 use Rattle.clearing.proofs.pile_up.Goals as goal
 
 pub loop-i-init : goal.loop-i-init
 unfolding piled
-loop-i-init c = (search rules, refl)
+loop-i-init c = refl
 
 pub bounds-free_nodes-i : goal.bounds-free_nodes-i
 bounds-free_nodes-i c =
-    omega (arith, ap length c.loop-i.invariant.1, length_piled c.loop-i.i c.args.max_allocs c.args.free_nodes.now)
+    omega (arith, ap length c.loop-i.invariant, length_piled c.loop-i.i c.args.max_allocs c.args.free_nodes.now)
 
 pub loop-i-preserved : goal.loop-i-preserved
 loop-i-preserved c =
-    (omega arith, rw (piled_more, c.loop-i.invariant.1))
+    rw (piled_more, c.loop-i.invariant)
 
 pub shape_of-free_nodes : goal.shape_of-free_nodes
-shape_of-free_nodes c = ap length c.loop-i.invariant.1 ∙ length_piled _ _ _
+shape_of-free_nodes c = ap length c.loop-i.invariant ∙ length_piled _ _ _
 
 pub returns : goal.returns
 returns c =
     let e : c.loop-i.i ≡ c.args.max_allocs = omega arith in
-    c.loop-i.invariant.1 ∙ ap (λ (k : ℕ). piled k c.args.max_allocs c.args.free_nodes.now) e
+    c.loop-i.invariant ∙ ap (λ (k : ℕ). piled k c.args.max_allocs c.args.free_nodes.now) e

@@ -9,10 +9,9 @@ use Rattle.full_report.proofs.class_sizes.Goals as goal
 pub loop-c-preserved : goal.loop-c-preserved
 loop-c-preserved c =
     let value-is = c.float_to_uint-value.ensures ∙ held_in_64 _ (omega arith) in (
-      omega arith,
-      simp length-set c.loop-c.invariant.1,
-      value_more c.loop-c.sizes c.loop-c.c _ (omega arith) value-is c.loop-c.invariant.2,
+      simp length-set c.loop-c.invariant.0,
+      value_more c.loop-c.sizes c.loop-c.c _ (omega arith) value-is c.loop-c.invariant.1,
     )
 
 pub returns : goal.returns
-returns c = (c.loop-c.invariant.1, λ k h. c.loop-c.invariant.2 k (omega arith))
+returns c = (c.loop-c.invariant.0, λ k h. c.loop-c.invariant.1 k (omega arith))

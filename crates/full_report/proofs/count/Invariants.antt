@@ -1,5 +1,5 @@
 -- The lists below i are counted. Assumes nothing.
-use Prim.Native.Nat.{ℕ, ◌≤◌, ◌-◌}
+use Prim.Native.Nat.{ℕ, ◌-◌}
 use mathlib.Core.Path.{◌≡◌}
 use mathlib.Core.List.{List}
 use lib.ListN.{length, replicate}
@@ -9,11 +9,7 @@ use Rattle.full_report.proofs.count.Given as goal
 
 abbrev pub invariant-loop-i : goal.invariant-loop-i
 invariant-loop-i l =
-    (l.i ≤ 256)
-    × (length l.counts ≡ 256)
+    (length l.counts ≡ 256)
     × ((leaves pile : List ℕ)
     → count_from 256 (words_of l.t l.bin_indices leaves l.nodes pile) 0 (replicate 256 0)
     ≡ count_from (256 - l.i) (words_of l.t l.bin_indices leaves l.nodes pile) l.i l.counts)
-
-abbrev pub decreases-loop-i : goal.decreases-loop-i
-decreases-loop-i l = 256 - l.i

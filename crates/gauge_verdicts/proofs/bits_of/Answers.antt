@@ -1,23 +1,16 @@
--- Only a not-a-number differs from itself. Assumes nothing.
-use mathlib.Core.Path.{◌≡◌, sym, ap, subst}
-use mathlib.Core.Bool.{true, false, not}
-use lib.Dec.{T}
-use lib.Ieee.{Float, nan, inf, fin, ne, is_nan, to_bits, binary32}
-use lib.Ieee.Compare.{differs_from_itself}
+-- Only a not-a-number is one. Assumes nothing.
+use Rattle.std.proofs.Common.{◌≡◌, true, refl, ap, sym, ◌∙◌, subst}
+use Rattle.std.specs.Prelude.{T}
+use Rattle.std.specs.Float.{binary32}
+use Rattle.std.specs.Float.Ieee.{Float, nan, inf, fin, is_nan, to_bits}
 use Rattle.gauge_verdicts.proofs.bits_of.Goals as goal
 
-is_nan_lem : (x : Float) → ne x x ≡ true → x ≡ nan
-is_nan_lem x e = differs_from_itself x (subst T (sym e) tt)
+only_nan : (x : Float) → is_nan x ≡ true → x ≡ nan
+unfolding is_nan
+only_nan nan e = refl
+only_nan (inf s) e = absurd (subst T (sym e) tt)
+only_nan (fin s m k) e = absurd (subst T (sym e) tt)
 
-not_nan : (x : Float) → ne x x ≡ false → T (not (is_nan x))
-unfolding ne is_nan
-not_nan nan e = subst T e tt
-not_nan (inf s) e = tt
-not_nan (fin s m k) e = tt
-
-pub returns-then-x : goal.returns-then-x
+pub returns-then-is_nan : goal.returns-then-is_nan
 unfolding to_bits
-returns-then-x c = sym (ap (λ (x : Float). to_bits binary32 x) (is_nan_lem _ c.if-x.true))
-
-pub float_to_bits-result : goal.float_to_bits-result
-float_to_bits-result c = not_nan _ c.if-x.false
+returns-then-is_nan c = sym (ap (λ (x : Float). to_bits binary32 x) (only_nan _ (sym c.is_nan.ensures.value ∙ c.if-is_nan.true)))

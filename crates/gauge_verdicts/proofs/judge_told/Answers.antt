@@ -1,12 +1,14 @@
 -- By the letter; what the numbers are judged is the verdict. Assumes nothing.
 use Prim.Native.Nat.{ℕ}
-use mathlib.Core.Path.{◌≡◌, sym, ◌∙◌}
+use mathlib.Core.Path.{◌≡◌, sym, ap, ◌∙◌}
 use mathlib.Core.Logic.{inl, inr}
 use native.Mathlib.Omega.{arith}
 use lib.IntN.{ℤ, pos, ◌-ℤ◌}
 use lib.Ieee.{Float}
 use mir.Syntax.{w64}
+use mir.Val.{to_z, of_z}
 use mir.Facts.{to_z-of_z}
+use Rattle.gauge_verdicts.proofs.Signs.{below_fits}
 use Rattle.oracle_lists.specs.declared.rows.Reader.{Reader}
 use Rattle.oracle_lists.specs.declared.tally.Verdict.{Verdict}
 use Rattle.gauge_verdicts.specs.Rows.{Judged, agrees, differs, Numbers, ToldRow}
@@ -47,26 +49,14 @@ told_down r fill level peak net net' change v d p q =
     from (inl b) = absurd (two_letters r.letter b.0 d)
     from (inr b) = let a = b.1 in (a.0, a.1, a.2, a.3, p ∙ a.4 ∙ sym q)
 
-neither : (r : Reader) (fill : ℕ) (level peak : Float) (net : ℤ)
-    → (r.letter ≡ 117 → ⊥)
-    → (r.letter ≡ 100 → ⊥)
-    → ToldRow r fill level peak net
-    → ⊥
-neither r fill level peak net u d (inl a) = u a.0
-neither r fill level peak net u d (inr a) = d a.0
+pub returns-in-117 : goal.returns-in-117
+returns-in-117 c =
+    let back = to_z-of_z {w = w64} (record { sfits = c.from.type_inv }) in
+    told_up c.args.row _ _ _ c.args.net _ _ _ c.in-117.is (to_z-of_z c.ranges.net) (back ∙ c.from.ensures) c.judge_numbers.ensures
 
-pub returns-then-row-eq117 : goal.returns-then-row-eq117
-returns-then-row-eq117 c =
-    let back = to_z-of_z {w = w64} (record { sfits = c.up.type_inv }) in
-    told_up c.args.row _ _ _ c.args.net _ _ _ c.if-row-eq117.true (to_z-of_z c.ranges.net) (back ∙ c.up.ensures)
-    c.judge_numbers.ensures
-
-pub returns-then-row-eq100 : goal.returns-then-row-eq100
-returns-then-row-eq100 c =
-    let back = to_z-of_z {w = w64} (record { sfits = c.down.type_inv }) in
-    told_down c.args.row _ _ _ c.args.net _ _ _ c.if-row-eq100.true (to_z-of_z c.ranges.net) (back ∙ c.down.ensures)
-    c.judge_numbers-then-row-eq100.ensures
-
-pub returns : goal.returns
-returns c =
-    differs (neither c.args.row c.args.fill c.args.level c.args.peak c.args.net c.if-row-eq117.false c.if-row-eq100.false)
+pub returns-in-100 : goal.returns-in-100
+returns-in-100 c =
+    let back = to_z-of_z {w = w64} (record { sfits = c.from-in-100.type_inv }) in
+    let less = ap (λ (z : ℤ). to_z w64 (of_z w64 (pos 0 -ℤ z))) (back ∙ c.from-in-100.ensures) in
+    let fits = below_fits c.args.row.d (rw c.from-in-100.ensures at c.from-in-100.type_inv) in
+    told_down c.args.row _ _ _ c.args.net _ _ _ c.in-100.is (to_z-of_z c.ranges.net) (less ∙ to_z-of_z fits) c.judge_numbers-in-100.ensures

@@ -9,12 +9,12 @@ use Rattle.giving.proofs.give_back.Goals as goal
 
 pub carry_out-requires : goal.carry_out-requires
 carry_out-requires c =
-    record { has_room = c.requires.has_room; max_allocs_in_bounds = c.requires.max_allocs_in_bounds; merge_guards = ready _ _ (c.plan.ensures.by_index [] [] []) c.plan.ensures.under_record c.in-Merge.is }
+    record { has_room = c.requires.has_room; max_allocs_in_bounds = c.requires.max_allocs_in_bounds; merge_guards = ready _ _ (c.plan.ensures.by_index [] [] []) c.plan.ensures.under_record c.in-Ok.is }
 
-pub returns-in-Stop : goal.returns-in-Stop
-returns-in-Stop c =
-    back_stopped edition32 _ _ (sym (c.plan.ensures.by_index _ _ _) ∙ ap plan_of c.in-Stop.is)
+pub returns-in-Err : goal.returns-in-Err
+returns-in-Err c =
+    back_stopped edition32 _ _ (sym (c.plan.ensures.by_index _ _ _) ∙ ap plan_of c.in-Err.is)
 
-pub returns-in-Merge : goal.returns-in-Merge
-returns-in-Merge c =
-    outcome_is c.carry_out.ensures.answer_value refl ∙ merged_back edition32 _ _ (c.plan.ensures.by_index _ _ _) c.plan.ensures.under_record c.in-Merge.is c.carry_out.ensures.free_nodes_after
+pub returns-in-Ok : goal.returns-in-Ok
+returns-in-Ok c =
+    outcome_is c.carry_out.ensures.answer_value refl ∙ merged_back edition32 _ _ (c.plan.ensures.by_index _ _ _) c.plan.ensures.under_record c.in-Ok.is c.carry_out.ensures.free_nodes_after

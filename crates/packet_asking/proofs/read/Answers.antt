@@ -2,14 +2,9 @@
 use mathlib.Core.Path.{sym, ◌∙◌}
 use Rattle.tables.specs.Calls.{edition32}
 use Rattle.answers.specs.Asked.{token_of}
-use Rattle.packets.specs.Stores.{two, store_of}
-use mathlib.Core.Path.{subst}
-use Prim.Native.Nat.{ℕ}
-use mathlib.Core.List.{List}
 use native.Mathlib.Omega.{arith}
 use lib.ListN.{length}
-use Rattle.packets.specs.Calls.{Read, shows}
-use Rattle.packets.specs.Promise.{PacketPromise}
+use Rattle.packets.specs.Calls.{Read}
 use Rattle.packets.specs.declared.Store.TheVariants.{OnChip, External}
 use Rattle.packets.proofs.Steps.{both_long}
 use Rattle.packets.proofs.Named.{as_named, shows_none, shown}
@@ -17,13 +12,7 @@ use Rattle.packet_asking.proofs.read.Goals as goal
 
 pub returns-then-too_short : goal.returns-then-too_short
 returns-then-too_short c =
-    let k = store_of c.args.on_chip c.args.on_bin_indices.now c.args.on_used_bins.now c.args.on_nodes.now c.args.on_free_nodes.now
-    c.args.on_bytes.now in
-    let m = store_of c.args.external c.args.ex_bin_indices.now c.args.ex_used_bins.now c.args.ex_nodes.now c.args.ex_free_nodes.now
-    c.args.ex_bytes.now in
-    subst (λ (part : List ℕ). PacketPromise edition32 (Read c.args.packet.store (token_of c.args.packet.span)) (two k m) (two k m) (shows part))
-    (sym c.no_part.ensures)
-    (shows_none edition32 c.args.packet.store (token_of c.args.packet.span) (two k m) (sym c.too_short.ensures.value ∙ c.if-too_short.true))
+    rw c.no_part.ensures (shows_none edition32 _ _ _ (sym c.too_short.ensures.value ∙ c.if-too_short.true))
 
 pub read-requires : goal.read-requires
 read-requires c =
@@ -41,18 +30,10 @@ read-requires-in-External c =
 
 pub returns-in-OnChip : goal.returns-in-OnChip
 returns-in-OnChip c =
-    let k = store_of c.args.on_chip c.args.on_bin_indices.now c.args.on_used_bins.now c.args.on_nodes.now c.args.on_free_nodes.now
-    c.args.on_bytes.now in
-    let m = store_of c.args.external c.args.ex_bin_indices.now c.args.ex_used_bins.now c.args.ex_nodes.now c.args.ex_free_nodes.now
-    c.args.ex_bytes.now in
     as_named edition32 (λ s. Read s (token_of c.args.packet.span)) c.in-OnChip.is
-    (shown edition32 OnChip (token_of c.args.packet.span) (two k m) _ (sym c.too_short.ensures.value ∙ c.if-too_short.false) c.read.ensures)
+    (shown edition32 OnChip _ _ _ (sym c.too_short.ensures.value ∙ c.if-too_short.false) c.read.ensures)
 
 pub returns-in-External : goal.returns-in-External
 returns-in-External c =
-    let k = store_of c.args.on_chip c.args.on_bin_indices.now c.args.on_used_bins.now c.args.on_nodes.now c.args.on_free_nodes.now
-    c.args.on_bytes.now in
-    let m = store_of c.args.external c.args.ex_bin_indices.now c.args.ex_used_bins.now c.args.ex_nodes.now c.args.ex_free_nodes.now
-    c.args.ex_bytes.now in
     as_named edition32 (λ s. Read s (token_of c.args.packet.span)) c.in-External.is
-    (shown edition32 External (token_of c.args.packet.span) (two k m) _ (sym c.too_short.ensures.value ∙ c.if-too_short.false) c.read-in-External.ensures)
+    (shown edition32 External _ _ _ (sym c.too_short.ensures.value ∙ c.if-too_short.false) c.read-in-External.ensures)

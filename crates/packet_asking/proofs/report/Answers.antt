@@ -1,36 +1,25 @@
 -- Told by the store that is named. Assumes nothing.
-use mathlib.Core.Path.{sym, ◌∙◌}
+use mathlib.Core.Path.{sym, ap, ◌∙◌}
 use Rattle.tables.specs.Calls.{edition32}
-use Rattle.packets.specs.Stores.{two, store_of}
+use Rattle.ledger.specs.Ledger.{reported}
 use Rattle.packets.specs.Calls.{ReportOf}
 use Rattle.packets.specs.declared.Store.TheVariants.{OnChip, External}
-use Rattle.packets.proofs.Named.{as_named, refused_9, reported_of}
+use Rattle.packets.specs.Answers.{report_says}
+use Rattle.packets.proofs.Named.{says_from_store, as_named, refused_9, reported_of}
 use Rattle.packet_asking.proofs.report.Goals as goal
 
 pub returns-then-too_short : goal.returns-then-too_short
 returns-then-too_short c =
-    let k = store_of c.args.on_chip c.args.on_bin_indices.now c.args.on_used_bins.now c.args.on_nodes.now c.args.on_free_nodes.now
-    c.args.on_bytes.now in
-    let m = store_of c.args.external c.args.ex_bin_indices.now c.args.ex_used_bins.now c.args.ex_nodes.now c.args.ex_free_nodes.now
-    c.args.ex_bytes.now in
-    refused_9 edition32 (ReportOf c.args.store) (two k m) tt (sym c.too_short.ensures.value ∙ c.if-too_short.true)
+    refused_9 edition32 (ReportOf _) _ tt (sym c.too_short.ensures.value ∙ c.if-too_short.true)
 
 pub returns-in-OnChip : goal.returns-in-OnChip
 returns-in-OnChip c =
-    let k = store_of c.args.on_chip c.args.on_bin_indices.now c.args.on_used_bins.now c.args.on_nodes.now c.args.on_free_nodes.now
-    c.args.on_bytes.now in
-    let m = store_of c.args.external c.args.ex_bin_indices.now c.args.ex_used_bins.now c.args.ex_nodes.now c.args.ex_free_nodes.now
-    c.args.ex_bytes.now in
     as_named edition32 ReportOf c.in-OnChip.is
-    (reported_of edition32 OnChip (two k m) _ _ (sym c.too_short.ensures.value ∙ c.if-too_short.false) c.report_told.ensures
+    (reported_of edition32 OnChip _ _ _ (sym c.too_short.ensures.value ∙ c.if-too_short.false) (ap report_says c.of_store.ensures ∙ says_from_store (λ r. reported r.total_free_space.0 r.largest_free_region.0) _)
     c.storage_report.ensures)
 
 pub returns-in-External : goal.returns-in-External
 returns-in-External c =
-    let k = store_of c.args.on_chip c.args.on_bin_indices.now c.args.on_used_bins.now c.args.on_nodes.now c.args.on_free_nodes.now
-    c.args.on_bytes.now in
-    let m = store_of c.args.external c.args.ex_bin_indices.now c.args.ex_used_bins.now c.args.ex_nodes.now c.args.ex_free_nodes.now
-    c.args.ex_bytes.now in
     as_named edition32 ReportOf c.in-External.is
-    (reported_of edition32 External (two k m) _ _ (sym c.too_short.ensures.value ∙ c.if-too_short.false) c.report_told-in-External.ensures
+    (reported_of edition32 External _ _ _ (sym c.too_short.ensures.value ∙ c.if-too_short.false) (ap report_says c.of_store-in-External.ensures ∙ says_from_store (λ r. reported r.total_free_space.0 r.largest_free_region.0) _)
     c.storage_report-in-External.ensures)

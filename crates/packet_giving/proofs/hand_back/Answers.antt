@@ -1,37 +1,26 @@
 -- The store that is named takes it back; the other one is as it was. Assumes nothing.
-use mathlib.Core.Path.{sym, ◌∙◌}
+use mathlib.Core.Path.{sym, ap, ◌∙◌}
+use Rattle.ledger.specs.Ledger.{done}
+use Rattle.packets.specs.Answers.{done_says}
 use Rattle.tables.specs.Calls.{edition32}
 use Rattle.answers.specs.Asked.{token_of}
-use Rattle.packets.specs.Stores.{two, store_of}
 use Rattle.packets.specs.Calls.{HandBack}
 use Rattle.packets.specs.declared.Store.TheVariants.{OnChip, External}
-use Rattle.packets.proofs.Named.{as_named, refused_9, gave_back, handed_back_lem}
+use Rattle.packets.proofs.Named.{says_from_store, as_named, refused_9, gave_back, handed_back_lem}
 use Rattle.packet_giving.proofs.hand_back.Goals as goal
 
 pub returns-then-too_short : goal.returns-then-too_short
 returns-then-too_short c =
-    let k = store_of c.args.on_chip c.args.on_bin_indices.now c.args.on_used_bins.now c.args.on_nodes.now c.args.on_free_nodes.now
-    c.args.on_bytes.now in
-    let m = store_of c.args.external c.args.ex_bin_indices.now c.args.ex_used_bins.now c.args.ex_nodes.now c.args.ex_free_nodes.now
-    c.args.ex_bytes.now in
-    refused_9 edition32 (HandBack c.args.packet.store (token_of c.args.packet.span)) (two k m) tt (sym c.too_short.ensures.value ∙ c.if-too_short.true)
+    refused_9 edition32 (HandBack _ _) _ tt (sym c.too_short.ensures.value ∙ c.if-too_short.true)
 
 pub returns-in-OnChip : goal.returns-in-OnChip
 returns-in-OnChip c =
-    let k = store_of c.args.on_chip c.args.on_bin_indices.now c.args.on_used_bins.now c.args.on_nodes.now c.args.on_free_nodes.now
-    c.args.on_bytes.now in
-    let m = store_of c.args.external c.args.ex_bin_indices.now c.args.ex_used_bins.now c.args.ex_nodes.now c.args.ex_free_nodes.now
-    c.args.ex_bytes.now in
     as_named edition32 (λ s. HandBack s (token_of c.args.packet.span)) c.in-OnChip.is
-    (handed_back_lem edition32 OnChip (token_of c.args.packet.span) (two k m) _ _ (sym c.too_short.ensures.value ∙ c.if-too_short.false)
-    (gave_back edition32 (token_of c.args.packet.span) k _ _ _ c.free-returned.ensures c.answered.ensures))
+    (handed_back_lem edition32 OnChip _ _ _ _ (sym c.too_short.ensures.value ∙ c.if-too_short.false)
+    (gave_back edition32 _ _ _ _ _ c.free-returned.ensures (ap done_says c.of_store.ensures ∙ says_from_store (λ _. done) _)))
 
 pub returns-in-External : goal.returns-in-External
 returns-in-External c =
-    let k = store_of c.args.on_chip c.args.on_bin_indices.now c.args.on_used_bins.now c.args.on_nodes.now c.args.on_free_nodes.now
-    c.args.on_bytes.now in
-    let m = store_of c.args.external c.args.ex_bin_indices.now c.args.ex_used_bins.now c.args.ex_nodes.now c.args.ex_free_nodes.now
-    c.args.ex_bytes.now in
     as_named edition32 (λ s. HandBack s (token_of c.args.packet.span)) c.in-External.is
-    (handed_back_lem edition32 External (token_of c.args.packet.span) (two k m) _ _ (sym c.too_short.ensures.value ∙ c.if-too_short.false)
-    (gave_back edition32 (token_of c.args.packet.span) m _ _ _ c.free-returned-in-External.ensures c.answered-in-External.ensures))
+    (handed_back_lem edition32 External _ _ _ _ (sym c.too_short.ensures.value ∙ c.if-too_short.false)
+    (gave_back edition32 _ _ _ _ _ c.free-returned-in-External.ensures (ap done_says c.of_store-in-External.ensures ∙ says_from_store (λ _. done) _)))

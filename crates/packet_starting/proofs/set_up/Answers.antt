@@ -1,14 +1,16 @@
 -- The store that is meant is set up, if neither is too short. Assumes nothing.
-use mathlib.Core.Path.{sym, subst, ◌∙◌}
+use mathlib.Core.Path.{sym, ap, subst, ◌∙◌}
 use native.Mathlib.Omega.{arith}
 use mathlib.Core.List.{List}
 use Prim.Native.Nat.{ℕ}
-use Rattle.ledger.specs.Ledger.{refused}
+use Rattle.ledger.specs.Ledger.{done, refused}
 use Rattle.tables.specs.Calls.{edition32}
 use Rattle.records.specs.declared.totals.Totals.{Totals}
 use Rattle.packets.specs.Stores.{Kept, placed, store_of}
 use Rattle.packets.specs.Calls.{plain}
 use Rattle.packets.specs.Promise.{PacketSetup}
+use Rattle.packets.specs.Answers.{done_says}
+use Rattle.packets.proofs.Named.{says_from_store}
 use Rattle.packets.proofs.Setups.{setup_9, setup_below}
 use Rattle.packet_starting.proofs.set_up.Goals as goal
 
@@ -32,4 +34,5 @@ returns c =
     c.args.beside heads leaves others-nodes others-pile c.args.bytes_beside.now in
     λ s t heads leaves others-nodes others-pile.
     setup_below edition32 s c.args.size.0 c.args.max_allocs (k t) (m heads leaves others-nodes others-pile) _ _ _
-    (sym c.too_short.ensures.value ∙ c.if-too_short.false) c.with_max_allocs-started.ensures c.answered.ensures
+    (sym c.too_short.ensures.value ∙ c.if-too_short.false) c.with_max_allocs-started.ensures
+    (ap done_says c.of_store.ensures ∙ says_from_store (λ _. done) _)

@@ -14,18 +14,18 @@ part-requires c =
     let k = store_of c.args.t c.args.bin_indices.now c.args.used_bins.now c.args.nodes.now c.args.free_nodes.now c.args.bytes.now in
     omega (
       arith,
-      length_in_bytes edition32 (token_of c.args.span) k c.in-Length.n.0
-          (ap size_says (sym c.in-Length.is) ∙ c.length_of.ensures c.args.bytes.now) c.requires,
+      length_in_bytes edition32 (token_of c.args.span) k c.in-Ok.n.0
+          (ap size_says (sym c.in-Ok.is) ∙ c.length_of.ensures c.args.bytes.now) c.requires,
     )
 
-pub returns-in-Refused : goal.returns-in-Refused
-returns-in-Refused c =
+pub returns-in-Err : goal.returns-in-Err
+returns-in-Err c =
     let k = store_of c.args.t c.args.bin_indices.now c.args.used_bins.now c.args.nodes.now c.args.free_nodes.now c.args.bytes.now in
-    c.no_part.ensures ∙ shows_nothing edition32 (token_of c.args.span) k (number_of c.in-Refused.field-0)
-    (ap size_says (sym c.in-Refused.is) ∙ c.length_of.ensures c.args.bytes.now)
+    c.no_part.ensures ∙ shows_nothing edition32 (token_of c.args.span) k (number_of c.in-Err.field-0)
+    (ap size_says (sym c.in-Err.is) ∙ c.length_of.ensures c.args.bytes.now)
 
-pub returns-in-Length : goal.returns-in-Length
-returns-in-Length c =
+pub returns-in-Ok : goal.returns-in-Ok
+returns-in-Ok c =
     let k = store_of c.args.t c.args.bin_indices.now c.args.used_bins.now c.args.nodes.now c.args.free_nodes.now c.args.bytes.now in
-    c.part.ensures ∙ shows_part edition32 (token_of c.args.span) k c.in-Length.n.0
-    (ap size_says (sym c.in-Length.is) ∙ c.length_of.ensures c.args.bytes.now)
+    c.part.ensures ∙ shows_part edition32 (token_of c.args.span) k c.in-Ok.n.0
+    (ap size_says (sym c.in-Ok.is) ∙ c.length_of.ensures c.args.bytes.now)

@@ -1,8 +1,6 @@
 -- One store after the other, if neither is too short. Assumes nothing.
 use mathlib.Core.Path.{sym, ◌∙◌}
 use Rattle.tables.specs.Calls.{edition32}
-use Rattle.answers.specs.Asked.{request_of}
-use Rattle.packets.specs.Stores.{two, store_of}
 use lib.ListN.{length}
 use Rattle.packets.specs.Calls.{Take}
 use Rattle.packets.proofs.Steps.{both_long}
@@ -11,11 +9,7 @@ use Rattle.packet_taking.proofs.take.Goals as goal
 
 pub returns-then-too_short : goal.returns-then-too_short
 returns-then-too_short c =
-    let k = store_of c.args.on_chip c.args.on_bin_indices.now c.args.on_used_bins.now c.args.on_nodes.now c.args.on_free_nodes.now
-    c.args.on_bytes.now in
-    let m = store_of c.args.external c.args.ex_bin_indices.now c.args.ex_used_bins.now c.args.ex_nodes.now c.args.ex_free_nodes.now
-    c.args.ex_bytes.now in
-    refused_9 edition32 (Take (request_of c.args.size)) (two k m) tt (sym c.too_short.ensures.value ∙ c.if-too_short.true)
+    refused_9 edition32 (Take _) _ tt (sym c.too_short.ensures.value ∙ c.if-too_short.true)
 
 pub take-first-requires : goal.take-first-requires
 take-first-requires c =
@@ -29,9 +23,5 @@ after_first-tried-requires c =
 
 pub returns : goal.returns
 returns c =
-    let k = store_of c.args.on_chip c.args.on_bin_indices.now c.args.on_used_bins.now c.args.on_nodes.now c.args.on_free_nodes.now
-    c.args.on_bytes.now in
-    let m = store_of c.args.external c.args.ex_bin_indices.now c.args.ex_used_bins.now c.args.ex_nodes.now c.args.ex_free_nodes.now
-    c.args.ex_bytes.now in
-    taken_both edition32 (request_of c.args.size) (two k m) _ _ _ _ (sym c.too_short.ensures.value ∙ c.if-too_short.false)
+    taken_both edition32 _ _ _ _ _ _ (sym c.too_short.ensures.value ∙ c.if-too_short.false)
     c.take-first.ensures (c.after_first-tried.ensures _)

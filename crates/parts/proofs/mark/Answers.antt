@@ -4,5 +4,5 @@ use Rattle.parts.proofs.mark.Goals as goal
 
 pub returns : goal.returns
 returns c =
-    lent_marked c.args.store.now c.mark_all.new.part c.args.offset c.args.len c.requires
-    c.mark_all.ensures
+    lent_marked c.args.store.now c.fill.new.self c.args.offset c.args.len c.requires
+    (c.fill.ensures.after (λ y same. same))

@@ -12,16 +12,16 @@ use Rattle.starting.proofs.reset.Goals as goal
 
 pub start_afresh-requires : goal.start_afresh-requires
 start_afresh-requires c =
-    let room = has_room edition32 (words_of c.args.t [] [] c.args.nodes.now c.args.free_nodes.now) c.test.ensures c.in-Open.is in
+    let room = has_room edition32 (words_of c.args.t [] [] c.args.nodes.now c.args.free_nodes.now) c.test.ensures c.in-Ok.is in
     record { le_max_allocs = room.count_low; has_room = room.nodes_room; max_allocs_in_bounds = room.pile_room }
 
-pub returns-in-Shut : goal.returns-in-Shut
-returns-in-Shut c =
-    promise edition32 Reset _ (shut_out edition32 _ Reset c.test.ensures c.in-Shut.is)
+pub returns-in-Err : goal.returns-in-Err
+returns-in-Err c =
+    promise edition32 Reset _ (shut_out edition32 _ Reset c.test.ensures c.in-Err.is)
 
-pub returns-in-Open : goal.returns-in-Open
+pub returns-in-Ok : goal.returns-in-Ok
 unfolding behind
-returns-in-Open c =
+returns-in-Ok c =
     promise edition32 Reset _
-    (let_in edition32 Reset _ (opened edition32 _ c.test.ensures c.in-Open.is)
+    (let_in edition32 Reset _ (opened edition32 _ c.test.ensures c.in-Ok.is)
     (outcome_is refl c.start_afresh.ensures))

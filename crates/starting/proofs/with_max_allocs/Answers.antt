@@ -14,23 +14,23 @@ use Rattle.starting.proofs.with_max_allocs.Goals as goal
 pub start_afresh-requires : goal.start_afresh-requires
 start_afresh-requires c =
     let room = open_has_room edition32 0 c.args.max_allocs (length c.args.nodes.now) (length c.args.free_nodes.now)
-    (open_is_0 c.test.ensures c.in-Open.is) in
+    (open_is_0 c.test.ensures c.in-Ok.is) in
     record { le_max_allocs = room.count_low; has_room = room.nodes_room; max_allocs_in_bounds = room.pile_room }
 
-pub returns-in-Shut : goal.returns-in-Shut
-returns-in-Shut c =
+pub returns-in-Err : goal.returns-in-Err
+returns-in-Err c =
     let fits : c.args.size.0 < 2 ^ 32 = omega (arith, c.units_of-units.ensures, c.units_of-units.type_inv) in
     setup_promise edition32 _ _ _ fits
     (c.leave_all.ensures _ _
-    ∙ setup_shut edition32 _ _ _ (not_0 c.in-Shut.why)
-    (sizes_pass edition32 _ _ _ _ (omega arith) ∙ shut_is c.test.ensures c.in-Shut.is))
+    ∙ setup_shut edition32 _ _ _ (not_0 c.in-Err.why)
+    (sizes_pass edition32 _ _ _ _ (omega arith) ∙ shut_is c.test.ensures c.in-Err.is))
 
-pub returns-in-Open : goal.returns-in-Open
-returns-in-Open c =
+pub returns-in-Ok : goal.returns-in-Ok
+returns-in-Ok c =
     let fits : c.args.size.0 < 2 ^ 32 = omega (arith, c.units_of-units.ensures, c.units_of-units.type_inv) in
     setup_promise edition32 c.args.size.0 _ _ fits
     (setup_let_in edition32 c.args.size.0 _ _
-    (sizes_pass edition32 _ _ _ _ (omega arith) ∙ open_is_0 c.test.ensures c.in-Open.is)
+    (sizes_pass edition32 _ _ _ _ (omega arith) ∙ open_is_0 c.test.ensures c.in-Ok.is)
     (outcome_is refl
     (c.start_afresh.ensures
     ∙ ap (λ (n : ℕ). fresh edition32 n c.args.max_allocs c.args.nodes.now c.args.free_nodes.now) c.units_of-units.ensures)))

@@ -12,17 +12,17 @@ use Rattle.taking.proofs.allocate.Goals as goal
 
 pub take-requires : goal.take-requires
 take-requires c =
-    let room = has_room edition32 (words_of c.args.t [] [] c.args.nodes.now c.args.free_nodes.now) c.test.ensures c.in-Open.is in
+    let room = has_room edition32 (words_of c.args.t [] [] c.args.nodes.now c.args.free_nodes.now) c.test.ensures c.in-Ok.is in
     record { has_room = room.nodes_room; max_allocs_in_bounds = room.pile_room }
 
-pub returns-in-Shut : goal.returns-in-Shut
-returns-in-Shut c =
+pub returns-in-Err : goal.returns-in-Err
+returns-in-Err c =
     promise edition32 (Take _) _
     (outcome _ _ _ _ c.refuse.ensures.0 c.refuse.ensures.1
-    ∙ shut_out edition32 _ (Take _) c.test.ensures c.in-Shut.is)
+    ∙ shut_out edition32 _ (Take _) c.test.ensures c.in-Err.is)
 
-pub returns-in-Open : goal.returns-in-Open
+pub returns-in-Ok : goal.returns-in-Ok
 unfolding behind
-returns-in-Open c =
+returns-in-Ok c =
     promise edition32 (Take _) _
-    (let_in edition32 (Take _) _ (opened edition32 _ c.test.ensures c.in-Open.is) c.take.ensures)
+    (let_in edition32 (Take _) _ (opened edition32 _ c.test.ensures c.in-Ok.is) c.take.ensures)

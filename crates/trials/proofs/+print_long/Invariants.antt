@@ -2,4 +2,4 @@
 use Rattle.trials.proofs.+print_long.Given as goal
 
 abbrev pub decreases-print_long : goal.decreases-print_long
-decreases-print_long l = l.words
+decreases-print_long g l = l.words

@@ -4,4 +4,4 @@ use Rattle.asking.proofs.report.report_top.Goals as goal
 
 pub returns : goal.returns
 unfolding report_top report_leaf report_class
-returns c = rw (c.report_leaf.ensures, c.wide.ensures.0)
+returns c = rw (c.report_leaf.ensures, c.from.ensures)

@@ -1,20 +1,18 @@
 -- At each turn the walk has come from where it stood to where it stands. Assumes nothing.
 use mathlib.Core.Path.{◌≡◌, sym, ap, ◌∙◌}
 use Prim.Native.Nat.{◌+◌, ◌-◌}
-use borrow.Author.Tests.{not-false}
 use Rattle.audit_words.specs.declared.Walk.{Walk}
 use Rattle.audit_words.specs.Chain.{advanced}
 use Rattle.audit_words.proofs.ChainMet.{is_good}
-use Rattle.audit_chain.specs.Comes.{Comes}
 use Rattle.audit_chain.proofs.Coming.{comes_nowhere, comes_past}
 use native.Mathlib.Omega.{arith}
 use Rattle.audit_chain.proofs.chain.run_on.Goals as goal
 
 pub loop-w-init : goal.loop-w-init
-loop-w-init c = comes_nowhere _ _ _ _ _ c.requires.bounded
+loop-w-init c = comes_nowhere _ _ _ _ _ c.requires
 
 pub good_region-requires : goal.good_region-requires
-good_region-requires c = record { has_room = omega arith; max_allocs_in_bounds = omega arith; offset_le_size = c.loop-w.invariant.bounded.offset_low }
+good_region-requires c = c.loop-w.invariant.bounded.offset_low
 
 pub overflow_add-follows : goal.overflow_add-follows
 overflow_add-follows c =

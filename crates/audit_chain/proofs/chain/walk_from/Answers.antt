@@ -1,13 +1,11 @@
 -- The walk has come from the first record to where it stands. Assumes nothing.
 use mathlib.Core.Path.{sym, ap, ◌∙◌}
-use Prim.Native.Nat.{◌-◌, ◌≤◌}
-use borrow.Author.Tests.{not-true, not-false}
+use Prim.Native.Nat.{◌-◌}
 use Rattle.tables.specs.Calls.{edition32}
 use Rattle.audit_words.specs.declared.Walk.{Walk}
-use Rattle.audit_words.specs.Chain.{started, advanced}
+use Rattle.audit_words.specs.Chain.{advanced}
 use Rattle.audit_words.proofs.ChainMet.{is_good}
 use Rattle.audit_words.proofs.Turns.{walk_stop, walk_end}
-use Rattle.audit_chain.specs.Comes.{Comes}
 use Rattle.audit_chain.proofs.Coming.{comes_nowhere, comes_past, comes_on, comes_to_end}
 use native.Mathlib.Omega.{arith}
 use Rattle.audit_chain.proofs.chain.walk_from.Goals as goal
@@ -20,7 +18,7 @@ loop-w-init c = (
 )
 
 pub good_region-requires : goal.good_region-requires
-good_region-requires c = record { has_room = omega arith; max_allocs_in_bounds = omega arith; offset_le_size = c.loop-w.invariant.0.bounded.offset_low }
+good_region-requires c = c.loop-w.invariant.0.bounded.offset_low
 
 pub returns-then-not-good_region : goal.returns-then-not-good_region
 returns-then-not-good_region c =
@@ -49,7 +47,7 @@ pub run_if_likely-w-requires : goal.run_if_likely-w-requires
 run_if_likely-w-requires c =
     let good = sym c.good_region.ensures ∙ c.if-not-good_region.false in
     let past = comes_past _ _ _ _ _ _ _ c.loop-w.invariant.0 c.loop-w-test.true good c.advance-v.ensures in
-    record { has_room = omega arith; max_allocs_in_bounds = omega arith; bounded = past.bounded }
+    past.bounded
 
 pub loop-w-smaller : goal.loop-w-smaller
 unfolding advanced

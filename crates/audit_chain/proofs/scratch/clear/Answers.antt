@@ -1,12 +1,11 @@
 -- The words below i are cleared. Assumes nothing.
 use mathlib.Core.Path.{◌≡◌, refl, ap, ◌∙◌}
-use Prim.Native.Nat.{ℕ, ◌-◌, ◌≤◌}
+use Prim.Native.Nat.{ℕ, ◌-◌}
 use lib.ListN.{length}
 use Rattle.audit_words.specs.Scratch.{cleared}
 use Rattle.audit_words.proofs.Cleared.{cleared_length}
 use Rattle.audit_words.proofs.Turns.{clear_turn}
 use native.Mathlib.Omega.{arith}
-use borrow.Author.Rules.{rules}
 use Rattle.audit_chain.proofs.scratch.clear.Goals as goal
 
 pub loop-i-init : goal.loop-i-init
@@ -15,12 +14,6 @@ loop-i-init c = (omega arith, refl)
 
 pub bounds-scratch-i : goal.bounds-scratch-i
 bounds-scratch-i c = rw (c.loop-i.invariant.1, cleared_length) (omega arith)
-
-pub overflow_add-i : goal.overflow_add-i
-overflow_add-i c = omega arith
-
-pub loop-i-smaller : goal.loop-i-smaller
-loop-i-smaller c = omega arith
 
 pub loop-i-preserved : goal.loop-i-preserved
 loop-i-preserved c = (omega arith, rw (clear_turn, c.loop-i.invariant.1))

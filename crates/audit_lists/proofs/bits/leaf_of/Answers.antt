@@ -9,28 +9,10 @@ use Rattle.audit_lists.proofs.bits.leaf_of.Goals as goal
 pub loop-i-init : goal.loop-i-init
 loop-i-init c = (omega arith, sym (mask_none_yet 8 (leaf_bit edition32 c.args.bin_indices.now c.args.t)))
 
-pub overflow_sub-i : goal.overflow_sub-i
-overflow_sub-i c = omega arith
-
-pub overflow_mul-c : goal.overflow_mul-c
-overflow_mul-c c = omega arith
-
-pub overflow_add-c : goal.overflow_add-c
-overflow_add-c c = omega arith
-
-pub overflow_cast-c : goal.overflow_cast-c
-overflow_cast-c c = omega arith
-
 pub overflow_mul-m : goal.overflow_mul-m
 overflow_mul-m c =
     let bits = leaf_bit edition32 c.args.bin_indices.now c.args.t in
-    omega (arith, c.loop-i.invariant.1, mask_room 8 bits (omega arith) (λ j. head_bit_bit edition32 _) c.loop-i.i c.loop-i-test.true)
-
-pub offset_bounds-bin_indices-c : goal.offset_bounds-bin_indices-c
-offset_bounds-bin_indices-c c = omega arith
-
-pub bounds-bin_indices-c : goal.bounds-bin_indices-c
-bounds-bin_indices-c c = omega arith
+    omega (arith, c.loop-i.invariant.1, mask_room 8 bits (omega arith) (λ j. head_bit_bit edition32 _) c.loop-i.i (omega arith))
 
 pub overflow_add-m : goal.overflow_add-m
 overflow_add-m c =
@@ -39,16 +21,13 @@ overflow_add-m c =
       arith,
       c.loop-i.invariant.1,
       c.head_bit.ensures.1,
-      mask_room 8 bits (omega arith) (λ j. head_bit_bit edition32 _) c.loop-i.i c.loop-i-test.true,
+      mask_room 8 bits (omega arith) (λ j. head_bit_bit edition32 _) c.loop-i.i (omega arith),
     )
-
-pub loop-i-smaller : goal.loop-i-smaller
-loop-i-smaller c = omega arith
 
 pub loop-i-preserved : goal.loop-i-preserved
 loop-i-preserved c =
     let bits = leaf_bit edition32 c.args.bin_indices.now c.args.t in
-    let turn = mask_turn 8 bits c.loop-i.i c.loop-i-test.true c.loop-i.invariant.0 in
+    let turn = mask_turn 8 bits c.loop-i.i (omega arith) c.loop-i.invariant.0 in
     (omega arith, omega (arith, turn, c.loop-i.invariant.1, c.head_bit.ensures.0))
 
 pub returns : goal.returns

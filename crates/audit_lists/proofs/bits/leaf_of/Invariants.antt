@@ -7,6 +7,3 @@ use Rattle.audit_lists.proofs.bits.leaf_of.Given as goal
 
 abbrev pub invariant-loop-i : goal.invariant-loop-i
 invariant-loop-i l = (l.i ≤ 8) × (l.m ≡ Above 8 (leaf_bit edition32 l.bin_indices l.t) l.i)
-
-abbrev pub decreases-loop-i : goal.decreases-loop-i
-decreases-loop-i l = l.i

@@ -8,6 +8,3 @@ use Rattle.audit_lists.proofs.bits.leaves_agree.Given as goal
 abbrev pub invariant-loop-t : goal.invariant-loop-t
 invariant-loop-t l =
     (l.t ≤ 32) × (leaves_from edition32 32 l.bin_indices l.used_bins 0 ≡ leaves_from edition32 (32 - l.t) l.bin_indices l.used_bins l.t)
-
-abbrev pub decreases-loop-t : goal.decreases-loop-t
-decreases-loop-t l = 32 - l.t

@@ -14,19 +14,10 @@ loop-t-init c =
     let bits : ℕ → ℕ = λ j. non_zero (get_or c.args.used_bins.now j 0) in
     (omega arith, sym (mask_none_yet 32 bits))
 
-pub overflow_sub-t : goal.overflow_sub-t
-overflow_sub-t c = omega arith
-
-pub overflow_cast-i : goal.overflow_cast-i
-overflow_cast-i c = omega arith
-
 pub overflow_mul-m : goal.overflow_mul-m
 overflow_mul-m c =
     let bits : ℕ → ℕ = λ j. non_zero (get_or c.args.used_bins.now j 0) in
-    omega (arith, c.loop-t.invariant.1, mask_room 32 bits (omega arith) (λ j. non_zero_bit _) c.loop-t.t c.loop-t-test.true)
-
-pub bounds-used_bins-i : goal.bounds-used_bins-i
-bounds-used_bins-i c = omega arith
+    omega (arith, c.loop-t.invariant.1, mask_room 32 bits (omega arith) (λ j. non_zero_bit _) c.loop-t.t (omega arith))
 
 pub overflow_add-m : goal.overflow_add-m
 overflow_add-m c =
@@ -35,16 +26,13 @@ overflow_add-m c =
       arith,
       c.loop-t.invariant.1,
       c.non_zero.ensures.1,
-      mask_room 32 bits (omega arith) (λ j. non_zero_bit _) c.loop-t.t c.loop-t-test.true,
+      mask_room 32 bits (omega arith) (λ j. non_zero_bit _) c.loop-t.t (omega arith),
     )
-
-pub loop-t-smaller : goal.loop-t-smaller
-loop-t-smaller c = omega arith
 
 pub loop-t-preserved : goal.loop-t-preserved
 loop-t-preserved c =
     let bits : ℕ → ℕ = λ j. non_zero (get_or c.args.used_bins.now j 0) in
-    let turn = mask_turn 32 bits c.loop-t.t c.loop-t-test.true c.loop-t.invariant.0 in
+    let turn = mask_turn 32 bits c.loop-t.t (omega arith) c.loop-t.invariant.0 in
     (omega arith, omega (arith, turn, c.loop-t.invariant.1, c.non_zero.ensures.0))
 
 pub returns : goal.returns

@@ -8,6 +8,3 @@ use Rattle.audit_lists.proofs.bits.top_of.Given as goal
 
 abbrev pub invariant-loop-t : goal.invariant-loop-t
 invariant-loop-t l = (l.t ≤ 32) × (l.m ≡ Above 32 (λ j. non_zero (get_or l.used_bins j 0)) l.t)
-
-abbrev pub decreases-loop-t : goal.decreases-loop-t
-decreases-loop-t l = l.t

@@ -8,9 +8,9 @@ use borrow.Author.Tests.{lt-ltb, le-ltb, eq-eqb, ne_eqb}
 use Rattle.audit_words.specs.Lists.{good_member}
 use Rattle.audit_lists.proofs.lists.good_member.Goals as goal
 
-pub returns-then-max_allocs-r : goal.returns-then-max_allocs-r
+pub returns-then-t-r : goal.returns-then-t-r
 unfolding good_member
-returns-then-max_allocs-r c = rw (le-ltb _ _ c.if-max_allocs-r.true)
+returns-then-t-r c = rw (le-ltb _ _ c.if-t-r.true)
 
 pub returns-then-marked-ne0 : goal.returns-then-marked-ne0
 unfolding good_member
@@ -31,7 +31,7 @@ unfolding good_member
 returns c =
     let joined : c.word.result ≡ c.args.m.prev = omega arith in
     rw (
-      lt-ltb _ _ c.if-max_allocs-r.false,
+      lt-ltb _ _ c.if-t-r.false,
       ← c.marked.ensures,
       eq-eqb _ _ c.if-marked-ne0.false,
       ← c.word.ensures,

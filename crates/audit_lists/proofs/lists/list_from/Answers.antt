@@ -10,15 +10,12 @@ use Rattle.audit_lists.proofs.lists.list_from.Goals as goal
 pub loop-m-init : goal.loop-m-init
 loop-m-init c = (refl, omega arith)
 
-pub good_member-requires : goal.good_member-requires
-good_member-requires c = record { has_room = omega arith; max_allocs_in_bounds = omega arith }
-
 pub returns-then-not-good_member : goal.returns-then-not-good_member
 returns-then-not-good_member c =
     record {
       value = sym (c.loop-m.invariant.0
           ∙ list_stop _ _ _ _ _ _ c.loop-m-test.true (sym c.good_member.ensures ∙ c.if-not-good_member.true));
-      listed_le_frees_2 = c.loop-m.invariant.1;
+      still_low = c.loop-m.invariant.1;
     }
 
 pub next_member-m-requires : goal.next_member-m-requires
@@ -37,4 +34,4 @@ loop-m-preserved c =
     rw c.next_member-m.ensures (c.loop-m.invariant.0 ∙ list_turn _ _ _ _ _ _ c.loop-m-test.true good, omega arith)
 
 pub returns : goal.returns
-returns c = record { value = sym (c.loop-m.invariant.0 ∙ list_end _ _ _ _ _ _ c.loop-m-test.false); listed_le_frees_2 = c.loop-m.invariant.1 }
+returns c = record { value = sym (c.loop-m.invariant.0 ∙ list_end _ _ _ _ _ _ c.loop-m-test.false); still_low = c.loop-m.invariant.1 }

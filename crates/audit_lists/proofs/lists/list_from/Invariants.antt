@@ -6,7 +6,7 @@ use Rattle.audit_lists.proofs.lists.list_from.Given as goal
 
 abbrev pub invariant-loop-m : goal.invariant-loop-m
 invariant-loop-m l =
-    (list_from (l.frees - l.initial.m.listed) l.nodes l.scratch l.max_allocs l.c.0 l.initial.m ≡ list_from (l.frees - l.m.listed) l.nodes l.scratch l.max_allocs l.c.0 l.m)
+    (list_from (l.frees - l.initial.m.listed) l.t.nodes.now l.t.scratch.now l.t.max_allocs l.c.0 l.initial.m ≡ list_from (l.frees - l.m.listed) l.t.nodes.now l.t.scratch.now l.t.max_allocs l.c.0 l.m)
     × (l.m.listed ≤ l.frees)
 
 abbrev pub decreases-loop-m : goal.decreases-loop-m

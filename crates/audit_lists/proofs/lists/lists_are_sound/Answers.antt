@@ -8,36 +8,21 @@ use Rattle.audit_lists.proofs.lists.lists_are_sound.Goals as goal
 pub loop-c-init : goal.loop-c-init
 loop-c-init c = (omega arith, refl, omega arith)
 
-pub overflow_cast-start : goal.overflow_cast-start
-overflow_cast-start c = omega arith
-
-pub offset_bounds-bin_indices-c : goal.offset_bounds-bin_indices-c
-offset_bounds-bin_indices-c c = omega arith
-
-pub bounds-bin_indices-c : goal.bounds-bin_indices-c
-bounds-bin_indices-c c = omega arith
-
 pub list_from-end-requires : goal.list_from-end-requires
-list_from-end-requires c = record { has_room = omega arith; max_allocs_in_bounds = omega arith; listed_le_frees = omega arith }
+list_from-end-requires c = omega arith
 
 pub returns-then-end : goal.returns-then-end
 returns-then-end c =
     sym (c.loop-c.invariant.1
-    ∙ lists_stop edition32 _ _ _ _ _ _ _ _ c.loop-c-test.true c.list_from-end.ensures.value c.if-end.true)
-
-pub overflow_add-c : goal.overflow_add-c
-overflow_add-c c = omega arith
-
-pub loop-c-smaller : goal.loop-c-smaller
-loop-c-smaller c = omega arith
+    ∙ lists_stop edition32 _ _ _ _ _ _ _ _ (omega arith) c.list_from-end.ensures.value c.if-end.true)
 
 pub loop-c-preserved : goal.loop-c-preserved
 loop-c-preserved c = (
   omega arith,
   c.loop-c.invariant.1
-      ∙ lists_turn edition32 _ _ _ _ _ _ _ _ c.loop-c-test.true c.list_from-end.ensures.value c.if-end.false,
-  c.list_from-end.ensures.listed_le_frees_2,
+      ∙ lists_turn edition32 _ _ _ _ _ _ _ _ (omega arith) c.list_from-end.ensures.value c.if-end.false,
+  c.list_from-end.ensures.still_low,
 )
 
 pub returns : goal.returns
-returns c = sym (c.loop-c.invariant.1 ∙ lists_end edition32 _ _ _ _ _ _ _ c.loop-c-test.false)
+returns c = sym (c.loop-c.invariant.1 ∙ lists_end edition32 _ _ _ _ _ _ _ (omega arith))

@@ -8,9 +8,6 @@ use Rattle.audit_lists.proofs.lists.lists_are_sound.Given as goal
 abbrev pub invariant-loop-c : goal.invariant-loop-c
 invariant-loop-c l =
     (l.c ≤ 256)
-    × (lists_from edition32 256 l.nodes l.scratch l.bin_indices l.max_allocs l.frees 0 0
-    ≡ lists_from edition32 (256 - l.c) l.nodes l.scratch l.bin_indices l.max_allocs l.frees l.c l.listed)
+    × (lists_from edition32 256 l.t.nodes.now l.t.scratch.now l.bin_indices l.t.max_allocs l.frees 0 0
+    ≡ lists_from edition32 (256 - l.c) l.t.nodes.now l.t.scratch.now l.bin_indices l.t.max_allocs l.frees l.c l.listed)
     × (l.listed ≤ l.frees)
-
-abbrev pub decreases-loop-c : goal.decreases-loop-c
-decreases-loop-c l = 256 - l.c

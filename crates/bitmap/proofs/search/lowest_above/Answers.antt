@@ -36,7 +36,7 @@ unfolding low_in_bin leaf_low
 returns-then-m-eq0 c =
     let some = sym c.none_from.ensures ∙ c.if-none_from.false in
     let low = in_top c.args.used_bins_top (c.args.c.0 / 8 + 1) c.lowest_bit_set_from-t.result (omega arith) (omega arith) c.lowest_bit_set_from-t.ensures.0 some in
-    rw (← c.lowest_bit_set_from-t.ensures.0, lt-ltb _ _ low, ← c.wide-m.ensures.0, eq-eqb _ _ c.if-m-eq0.true) tt
+    rw (← c.lowest_bit_set_from-t.ensures.0, lt-ltb _ _ low, ← c.from-m.ensures, eq-eqb _ _ c.if-m-eq0.true) tt
 
 pub returns : goal.returns
 unfolding low_in_bin leaf_low
@@ -44,12 +44,12 @@ returns c =
     let some = sym c.none_from.ensures ∙ c.if-none_from.false in
     let low = in_top c.args.used_bins_top (c.args.c.0 / 8 + 1) c.lowest_bit_set_from-t.result (omega arith) (omega arith) c.lowest_bit_set_from-t.ensures.0 some in
     let set = ne_eqb _ _ c.if-m-eq0.false in
-    let leaf = trailing_below 8 32 c.wide-m.result (omega arith) (omega (arith, c.if-m-eq0.false)) c.wide-m.ensures.1 in
+    let leaf = trailing_below 8 32 c.from-m.result (omega arith) (omega (arith, c.if-m-eq0.false)) (omega arith) in
     rw (
       c.lowest_bit_set_from.ensures.0,
       from_leaf_0 _ set,
       ← c.lowest_bit_set_from-t.ensures.0,
       lt-ltb _ _ low,
-      ← c.wide-m.ensures.0,
+      ← c.from-m.ensures,
       set,
     ) (refl, omega (arith, leaf, low))

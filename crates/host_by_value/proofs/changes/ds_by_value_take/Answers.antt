@@ -1,4 +1,5 @@
 -- What the take by value promises, with its head in the arrays. Assumes nothing.
+use Rattle.ledger.specs.Calls.{takes}
 use Rattle.host_values.proofs.Kept.{call_moved}
 use Rattle.host_by_value.proofs.changes.ds_by_value_take.Goals as goal
 
@@ -7,5 +8,5 @@ returns c =
     record {
       given = _;
       promised = call_moved (c.of_arrays-found.ensures _ _) (c.keep.ensures _ _) c.allocate-taken.ensures;
-      told = c.of_take.ensures record { size = c.args.size };
+      told = c.of_answer.ensures (takes c.args.size);
     }

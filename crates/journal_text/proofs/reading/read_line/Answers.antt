@@ -10,11 +10,6 @@ use Rattle.journal_text.proofs.Scanning.{to_the_end}
 use Rattle.journal_text.proofs.Judging.{first_there}
 use Rattle.journal_text.proofs.reading.read_line.Goals as goal
 
-pub returns-then-start-bytes : goal.returns-then-start-bytes
-unfolding line_in only_blanks
-returns-then-start-bytes c =
-    rw (eq-eqb (leading is_blank c.args.bytes.now) (length c.args.bytes.now) (sym c.blanks-start.ensures.0 ∙ c.if-start-bytes.true))
-
 pub returns-then-bytes-start-eq35 : goal.returns-then-bytes-start-eq35
 unfolding line_in only_blanks
 returns-then-bytes-start-eq35 c =

@@ -10,13 +10,6 @@ use Rattle.journal_text.proofs.writing.digits.Goals as goal
 pub loop-rest-init : goal.loop-rest-init
 loop-rest-init c = (omega arith, at_most_ten _ (search rules))
 
-pub overflow_add-count : goal.overflow_add-count
-overflow_add-count c =
-    omega (arith, c.loop-rest.invariant.0, c.loop-rest.invariant.1)
-
-pub loop-rest-smaller : goal.loop-rest-smaller
-loop-rest-smaller c = omega arith
-
 pub loop-rest-preserved : goal.loop-rest-preserved
 loop-rest-preserved c =
     (omega (arith, c.loop-rest.invariant.0, length_more c.loop-rest.rest (omega arith)), c.loop-rest.invariant.1)

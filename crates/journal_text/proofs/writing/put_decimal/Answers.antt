@@ -3,15 +3,9 @@ use Prim.Native.Nat.{ℕ, ◌+◌, ◌/◌}
 use mathlib.Core.Path.{◌≡◌, refl, sym, ap}
 use lib.ListN.{length-set}
 use Rattle.journal_text.proofs.Decimals.{has_digits, length_more, length_digit}
-use Rattle.journal_text.proofs.Backwards.{no_tail, no_longer, one_before, put_whole}
+use Rattle.journal_text.proofs.Backwards.{no_tail, one_before, put_whole}
 use native.Mathlib.Omega.{arith}
 use Rattle.journal_text.proofs.writing.put_decimal.Goals as goal
-
-pub digits-requires : goal.digits-requires
-digits-requires c = tt
-
-pub overflow_add-next : goal.overflow_add-next
-overflow_add-next c = omega (arith, c.digits.ensures.1)
 
 pub overflow_sub-place : goal.overflow_sub-place
 overflow_sub-place c = omega (arith, c.digits.ensures.0, has_digits c.args.n)
@@ -25,19 +19,9 @@ loop-rest-init c = (
   refl,
 )
 
-pub digit-requires : goal.digit-requires
-digit-requires c = omega arith
-
-pub bounds-out-place : goal.bounds-out-place
-bounds-out-place c =
-    omega (arith, no_longer c.loop-rest.invariant.0, c.loop-rest.invariant.1, c.loop-rest.invariant.2, c.loop-rest.invariant.3, c.loop-rest.invariant.4, c.requires)
-
 pub overflow_sub-place-in-loop-rest : goal.overflow_sub-place-in-loop-rest
 overflow_sub-place-in-loop-rest c =
     omega (arith, c.loop-rest.invariant.1, length_more c.loop-rest.rest (omega arith), has_digits (c.loop-rest.rest / 10))
-
-pub loop-rest-smaller : goal.loop-rest-smaller
-loop-rest-smaller c = omega arith
 
 pub loop-rest-preserved : goal.loop-rest-preserved
 loop-rest-preserved c =
@@ -49,16 +33,6 @@ loop-rest-preserved c =
       c.loop-rest.invariant.3,
       simp length-set c.loop-rest.invariant.4,
     )
-
-pub digit-requires-2 : goal.digit-requires-2
-digit-requires-2 c = omega arith
-
-pub bounds-out-place-2 : goal.bounds-out-place-2
-bounds-out-place-2 c =
-    omega (arith, no_longer c.loop-rest.invariant.0, c.loop-rest.invariant.1, c.loop-rest.invariant.2, c.loop-rest.invariant.3, c.loop-rest.invariant.4, c.requires)
-
-pub shape_of-out : goal.shape_of-out
-shape_of-out c = simp length-set c.loop-rest.invariant.4
 
 pub returns : goal.returns
 returns c =

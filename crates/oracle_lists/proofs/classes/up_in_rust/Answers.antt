@@ -14,9 +14,9 @@ without_class : {wanted : Option ℕ} → wanted ≡ none → 240 ≡ in_rust wa
 unfolding in_rust
 without_class e = sym (ap in_rust e)
 
-pub returns-in-To : goal.returns-in-To
-returns-in-To c =
-    with_class _ (told_class c.uint_to_float_round_up.ensures c.in-To.is)
+pub returns-in-Some : goal.returns-in-Some
+returns-in-Some c =
+    with_class _ (told_class c.uint_to_float_round_up.ensures c.in-Some.is)
 
-pub returns-in-NoClass : goal.returns-in-NoClass
-returns-in-NoClass c = without_class (told_none c.uint_to_float_round_up.ensures c.in-NoClass.is)
+pub returns-in-None : goal.returns-in-None
+returns-in-None c = without_class (told_none c.uint_to_float_round_up.ensures c.in-None.is)

@@ -5,4 +5,4 @@ use Rattle.records.proofs.nodes.put.Goals as goal
 
 pub returns : goal.returns
 unfolding put
-returns c = refl
+returns c = rw c.place.ensures refl

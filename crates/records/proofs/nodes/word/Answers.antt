@@ -5,4 +5,4 @@ use Rattle.records.proofs.nodes.word.Goals as goal
 
 pub returns : goal.returns
 unfolding word
-returns c = refl
+returns c = rw c.place.ensures refl

@@ -1,2 +1,0 @@
--- Sliding: a byte more at the front.
-pub mod Sliding

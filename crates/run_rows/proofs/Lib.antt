@@ -1,2 +1,0 @@
--- WholeReports: the verdict on a row of a full report.
-pub mod WholeReports
