@@ -10,11 +10,11 @@ pub type Nodes = [u32; 1048584];
 
 pub type FreeNodes = [u32; 131073];
 
-// The spans that are out (`held`).
-pub type Out = [Allocation; 131073];
-
 // A head in one form of the calls, beside whose tables they are made.
-pub trait Form {
+pub trait Form: Sized {
+    // A store that the plan sets up.
+    fn set_up(plan: Plan, nodes: &mut Nodes, free_nodes: &mut FreeNodes) -> Self;
+
     fn allocate(
         &mut self,
         size: Size,
@@ -63,11 +63,10 @@ pub fn run<H: Form>(
 }
 
 // A whole run, in tables of its own.
-pub fn in_tables<F: FnOnce(&mut Nodes, &mut FreeNodes, &mut Out) -> Draws>(drive: F) -> Draws
-    requires { F.IsAlwaysCallable drive }
-{
+pub fn drive<H: Form + Drop>(plan: Plan) -> Draws {
     let mut nodes = [0u32; 1048584];
     let mut free_nodes = [0u32; 131073];
     let mut out = [held::NO_SPAN; 131073];
-    drive(&mut nodes, &mut free_nodes, &mut out)
+    let mut head = H::set_up(plan, &mut nodes, &mut free_nodes);
+    run(plan, &mut head, &mut nodes, &mut free_nodes, &mut out)
 }

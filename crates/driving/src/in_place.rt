@@ -1,6 +1,5 @@
 // The calls in place: the scalars by value, the arrays and the tables lent.
-use crate::form::{self, Form, FreeNodes, Nodes, Out};
-use crate::progress::Draws;
+use crate::form::{Form, FreeNodes, Nodes};
 use crate::rows::Plan;
 use answers::{Allocation, Refusal};
 use records::totals::Totals;
@@ -14,6 +13,24 @@ pub struct InPlace {
 }
 
 impl Form for InPlace {
+    fn set_up(plan: Plan, nodes: &mut Nodes, free_nodes: &mut FreeNodes) -> InPlace {
+        let mut bin_indices = [0u32; 256];
+        let mut used_bins = [0u8; 32];
+        let started = starting::with_max_allocs(
+            Size(plan.size),
+            plan.records,
+            &mut bin_indices,
+            &mut used_bins,
+            nodes,
+            free_nodes,
+        );
+        InPlace {
+            totals: started.totals,
+            bin_indices,
+            used_bins,
+        }
+    }
+
     fn allocate(
         &mut self,
         size: Size,
@@ -45,27 +62,4 @@ impl Form for InPlace {
         );
         self.totals = returned.totals;
     }
-}
-
-fn drive_on(plan: Plan, nodes: &mut Nodes, free_nodes: &mut FreeNodes, out: &mut Out) -> Draws {
-    let mut bin_indices = [0u32; 256];
-    let mut used_bins = [0u8; 32];
-    let started = starting::with_max_allocs(
-        Size(plan.size),
-        plan.records,
-        &mut bin_indices,
-        &mut used_bins,
-        nodes,
-        free_nodes,
-    );
-    let mut head = InPlace {
-        totals: started.totals,
-        bin_indices,
-        used_bins,
-    };
-    form::run(plan, &mut head, nodes, free_nodes, out)
-}
-
-pub fn drive(plan: Plan) -> Draws {
-    form::in_tables(|nodes, free_nodes, out| drive_on(plan, nodes, free_nodes, out))
 }

@@ -1,19 +1,37 @@
 // The calls with all of the head lent: the scalars stand in an array, beside the arrays and the tables.
-use crate::form::{self, Form, FreeNodes, Nodes, Out};
-use crate::progress::Draws;
+use crate::form::{Form, FreeNodes, Nodes};
 use crate::rows::Plan;
 use answers::{Allocation, Refusal};
 use records::totals::Totals;
 use small_float::Size;
 
 #[derive(Clone, Copy)]
-struct Lent {
+pub struct Lent {
     scalars: [u32; Totals::SCALARS],
     bin_indices: [u32; 256],
     used_bins: [u8; 32],
 }
 
 impl Form for Lent {
+    fn set_up(plan: Plan, nodes: &mut Nodes, free_nodes: &mut FreeNodes) -> Lent {
+        let mut bin_indices = [0u32; 256];
+        let mut used_bins = [0u8; 32];
+        let started = starting::with_max_allocs(
+            Size(plan.size),
+            plan.records,
+            &mut bin_indices,
+            &mut used_bins,
+            nodes,
+            free_nodes,
+        );
+        let totals = started.totals;
+        Lent {
+            scalars: totals.in_array(),
+            bin_indices,
+            used_bins,
+        }
+    }
+
     fn allocate(
         &mut self,
         size: Size,
@@ -40,28 +58,4 @@ impl Form for Lent {
             free_nodes,
         );
     }
-}
-
-fn drive_on(plan: Plan, nodes: &mut Nodes, free_nodes: &mut FreeNodes, out: &mut Out) -> Draws {
-    let mut bin_indices = [0u32; 256];
-    let mut used_bins = [0u8; 32];
-    let started = starting::with_max_allocs(
-        Size(plan.size),
-        plan.records,
-        &mut bin_indices,
-        &mut used_bins,
-        nodes,
-        free_nodes,
-    );
-    let totals = started.totals;
-    let mut head = Lent {
-        scalars: totals.in_array(),
-        bin_indices,
-        used_bins,
-    };
-    form::run(plan, &mut head, nodes, free_nodes, out)
-}
-
-pub fn drive(plan: Plan) -> Draws {
-    form::in_tables(|nodes, free_nodes, out| drive_on(plan, nodes, free_nodes, out))
 }

@@ -53,6 +53,22 @@ pub fn is(row: Reader, letter: u8, fields: u32) -> bool {
     row.letter == letter && row.fields == fields
 }
 
+// So many rows of the input at most, each answered; a row that is not whole is passed over.
+pub fn each_row<F: FnMut(Reader) -> std::io::Result<()>>(
+    most: u32,
+    mut answer: F,
+) -> std::io::Result<()>
+    requires { F.IsAlwaysCallable answer }
+{
+    for _ in 0..most {
+        let row = next();
+        if row.is_whole() {
+            answer(row)?;
+        }
+    }
+    Ok(())
+}
+
 // The rows of the input, each a run: `LETTER RUN SIZE RECORDS CALLS`, with the form's letter.
 pub fn drive_each<R: Print, F: FnMut(Plan) -> Draws>(
     rt: &R,

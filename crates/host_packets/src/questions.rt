@@ -43,7 +43,7 @@ pub extern "C" fn ds_packet_length(
     let packet = values::packet_of(store, offset, handle);
     let on_chip = Totals::of_array(on_scalars);
     let external = Totals::of_array(ex_scalars);
-    values::of_length(packet_asking::length(
+    values::of_told(packet_asking::length(
         packet, on_chip, on_bins, on_leaves, on_nodes, on_pile, on_bytes, external, ex_bins,
         ex_leaves, ex_nodes, ex_pile, ex_bytes,
     ))
@@ -76,7 +76,7 @@ pub extern "C" fn ds_packet_report(
     let meant = Store::from(store);
     let on_chip = Totals::of_array(on_scalars);
     let external = Totals::of_array(ex_scalars);
-    values::of_report(packet_asking::report(
+    values::of_told(packet_asking::report(
         meant, on_chip, on_bins, on_leaves, on_nodes, on_pile, on_bytes, external, ex_bins,
         ex_leaves, ex_nodes, ex_pile, ex_bytes,
     ))

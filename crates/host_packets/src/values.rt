@@ -1,14 +1,13 @@
 // Stores, packets and answers in plain numbers.
 ghost use Rattle.std.specs.Prelude.{◌≡◌};
-ghost use Rattle.ledger.specs.Calls.{Token, Ask, SizeOf, Report};
-ghost use Rattle.packets.specs.Answers.{why_number, grant_says, length_says, report_says};
+ghost use Rattle.ledger.specs.Calls.{Call};
+ghost use Rattle.packets.specs.Answers.{why_number, says, grant_says};
+ghost use Rattle.packets.specs.Calls.{plain};
 ghost use Rattle.host_values.specs.Told.{refused_by};
 ghost use Rattle.host_packets.specs.Flat.{packet_named, packet_told, no_packet, told_in};
 
-use answers::StorageReport;
-use host_values::Told;
+use host_values::{Shown, Told};
 use packets::{PacketRefusal, Store};
-use small_float::Size;
 
 // A packet that was granted, or the refusal's number: a struct for C.
 #[repr(C)]
@@ -68,29 +67,12 @@ fn of_refusal(why: PacketRefusal) -> Told
     }
 }
 
-// This and the next are two, though alike: as one over `host_values::Shown`, tried, the calls that give them out find no proof.
-pub fn of_length(answer: Result<Size, PacketRefusal>) -> Told
-    ensures { (span : Token) → result ≡ told_in (Ask (SizeOf span)) (length_says answer) }
+// What a question of one store tells.
+pub fn of_told<T: Shown>(answer: Result<T, PacketRefusal>) -> Told
+    ensures { (c : Call) → result ≡ told_in c (says (λ x. plain (T.said x)) answer) }
 {
     match answer {
-        Ok(size) => Told {
-            number: 0,
-            first: size.0,
-            second: 0,
-        },
-        Err(why) => of_refusal(why),
-    }
-}
-
-pub fn of_report(answer: Result<StorageReport, PacketRefusal>) -> Told
-    ensures { result ≡ told_in (Ask Report) (report_says answer) }
-{
-    match answer {
-        Ok(report) => Told {
-            number: 0,
-            first: report.total_free_space.0,
-            second: report.largest_free_region.0,
-        },
+        Ok(told) => told.shown(),
         Err(why) => of_refusal(why),
     }
 }

@@ -7,26 +7,28 @@ mod progress;
 
 use complaints::Complaint;
 use progress::Progress;
-use streams::STDIN_FILENO;
+use std::io;
+use std::io::Read;
 
-// The text to its end; the last line may lack its newline. A proved loop has to end, and nothing says that the input does: so turns are counted, up to a
-// number that no run reaches.
-fn write_text(progress: &mut Progress) -> Result<(), Complaint> {
-    let mut buffer = io::large_buffer();
+// The text to its end, and a read that fails is one; the last line may lack its newline. A proved loop has to end, and nothing says that the input does: so
+// turns are counted, up to a number that no run reaches.
+fn write_text(rt: &(impl Input + Print), progress: &mut Progress) -> Result<(), Complaint> {
+    let mut input = rt.reader();
+    let mut buffer = [0u8; 65536];
     for _ in 0..u64::MAX {
-        let n = io::read_full(STDIN_FILENO, &mut buffer);
+        let n = input.read(&mut buffer).unwrap_or(0);
         if n == 0 {
             break;
         }
         for byte in &buffer[..n] {
-            progress.feed(*byte)?;
+            progress.feed(rt, *byte)?;
         }
     }
-    progress.at_end()
+    progress.at_end(rt)
 }
 
 // Where it stopped, why.
-fn tell(rt: &impl Eprint, written: Result<(), Complaint>) -> std::io::Result<()> {
+fn tell(rt: &impl Eprint, written: Result<(), Complaint>) -> io::Result<()> {
     match written {
         Ok(()) => Ok(()),
         Err(why) => eprintln!(rt; "{why}"),
@@ -34,9 +36,9 @@ fn tell(rt: &impl Eprint, written: Result<(), Complaint>) -> std::io::Result<()>
 }
 
 // The records of the lines before a bad one are written all the same, and where that cannot be told.
-fn main(rt: HostRuntime) -> std::io::Result<()> {
+fn main(rt: HostRuntime) -> io::Result<()> {
     let mut progress = Progress::new();
-    let read = tell(&rt, write_text(&mut progress));
-    tell(&rt, progress.flush())?;
+    let read = tell(&rt, write_text(&rt, &mut progress));
+    tell(&rt, progress.flush(&rt))?;
     read
 }

@@ -1,7 +1,6 @@
 // The text read so far, and the records that wait to be written.
 use crate::complaints::Complaint;
 use calls::Call;
-use streams::STDOUT_FILENO;
 
 #[derive(Drop)]
 pub struct Progress {
@@ -35,29 +34,23 @@ impl Progress {
     }
 
     // What waits is written.
-    pub fn flush(&mut self) -> Result<(), Complaint> {
-        let written = io::write_all(
-            STDOUT_FILENO,
-            journal_lines::front(&self.records, self.waiting),
-        );
+    pub fn flush(&mut self, rt: &impl Print) -> Result<(), Complaint> {
+        let written = rt.write_all(journal_lines::front(&self.records, self.waiting));
         self.waiting = 0;
-        if !written {
-            return Err(Complaint::Output);
-        }
-        Ok(())
+        written.or(Err(Complaint::Output))
     }
 
     // A record behind those that wait: the longest has 12 bytes, so that there is room for one after what waits is written.
-    fn record(&mut self, call: Call) -> Result<(), Complaint> {
+    fn record(&mut self, rt: &impl Print, call: Call) -> Result<(), Complaint> {
         if 65000 <= self.waiting {
-            self.flush()?;
+            self.flush(rt)?;
         }
         self.waiting = journal::writing::write(call, &mut self.records, self.waiting)?;
         Ok(())
     }
 
     // A whole line, by what it holds.
-    fn end_line(&mut self) -> Result<(), Complaint> {
+    fn end_line(&mut self, rt: &impl Print) -> Result<(), Complaint> {
         let length = self.length;
         self.length = 0;
         self.lines = self.lines.saturating_add(1);
@@ -65,26 +58,26 @@ impl Progress {
             return Err(Complaint::Length(self.lines));
         }
         match journal_text::reading::read_line(journal_lines::front(&self.line, length)) {
-            Ok(Some(call)) => self.record(call),
+            Ok(Some(call)) => self.record(rt, call),
             Ok(None) => Ok(()),
             Err(fault) => Err(Complaint::Fault(self.lines, fault)),
         }
     }
 
     // The text with a byte more.
-    pub fn feed(&mut self, byte: u8) -> Result<(), Complaint> {
+    pub fn feed(&mut self, rt: &impl Print, byte: u8) -> Result<(), Complaint> {
         if byte == b'\n' {
-            return self.end_line();
+            return self.end_line(rt);
         }
         self.keep(byte);
         Ok(())
     }
 
     // The text has ended.
-    pub fn at_end(&mut self) -> Result<(), Complaint> {
+    pub fn at_end(&mut self, rt: &impl Print) -> Result<(), Complaint> {
         if self.length == 0 {
             return Ok(());
         }
-        self.end_line()
+        self.end_line(rt)
     }
 }

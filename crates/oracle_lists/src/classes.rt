@@ -9,13 +9,11 @@ use crate::tally::{Tally, Verdict};
 use small_float::{Class, Size};
 
 // What the Rust rounds a size up to: the port's class, or 240 where the port has none.
+#[tactic(auto, unfolding(crate::specs::Verdicts::in_rust))]
 fn up_in_rust(size: u32) -> u32
     ensures { result ≡ in_rust (rounded_up size) }
 {
-    match small_float::uint_to_float_round_up(Size(size)) {
-        Some(class) => class.0,
-        None => 240,
-    }
+    small_float::uint_to_float_round_up(Size(size)).map_or(240, |class| class.0)
 }
 
 // The smallest store that the Rust gives: the port's, or 0 where the port refuses.
@@ -23,12 +21,7 @@ fn judge_smallest(size: u32, smallest: u32) -> Verdict
     ensures { result ≡ served_verdict (rounded_up size) smallest }
 {
     match small_float::ext::min_allocator_size(Size(size)) {
-        Ok(store) => {
-            if store.0 == smallest {
-                return Verdict::Agrees;
-            }
-            Verdict::Differs
-        }
+        Ok(store) => Verdict::from(store.0 == smallest),
         Err(_) => {
             if smallest == 0 {
                 return Verdict::Listed;
@@ -65,10 +58,11 @@ pub fn judge_class(class: u32, value: u32) -> Verdict
         return Verdict::Differs;
     }
     let port = small_float::float_to_uint(Class(class));
-    if port == value as u64 {
+    let in_list = u64::from(value);
+    if port == in_list {
         return Verdict::Agrees;
     }
-    if port % 4294967296 == value as u64 {
+    if port % 4294967296 == in_list {
         return Verdict::Listed;
     }
     Verdict::Differs

@@ -102,7 +102,7 @@ impl Reader {
         requires { value < 10 }
         ensures { result ≡ with_digit self value }
     {
-        let longer = 10 * (self.d as u64) + (value as u64);
+        let longer = 10 * u64::from(self.d) + u64::from(value);
         if 4294967295 < longer {
             return Reader::spoiled();
         }

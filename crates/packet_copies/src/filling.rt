@@ -20,7 +20,7 @@ pub fn fill(packet: Packet, new: [u8; 80], many: usize, before: Sides) -> Made {
     let ex = &mut after.external;
     let filled = packet_filling::fill(
         packet,
-        sides::lent(&new, many),
+        &new[..many.min(80)],
         on.head.totals,
         &on.head.bin_indices,
         &on.head.used_bins,

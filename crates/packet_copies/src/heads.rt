@@ -1,5 +1,5 @@
 // Take and hand back, with both heads by value.
-use crate::sides::Sides;
+use crate::sides::{BYTES, Sides};
 use crate::told::{Made, Told};
 use crate::{sides, told};
 use packets::Packet;
@@ -34,11 +34,11 @@ pub fn hand_back(packet: Packet, before: Sides) -> Made {
         on.head,
         &mut on.nodes,
         &mut on.free_nodes,
-        sides::lent(&on.bytes, on.lent),
+        &on.bytes[..on.lent.min(BYTES)],
         ex.head,
         &mut ex.nodes,
         &mut ex.free_nodes,
-        sides::lent(&ex.bytes, ex.lent),
+        &ex.bytes[..ex.lent.min(BYTES)],
     );
     on.head = returned.left.on_chip;
     ex.head = returned.left.external;

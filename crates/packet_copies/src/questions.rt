@@ -1,6 +1,5 @@
 // The questions, in place: nothing changes.
-use crate::sides;
-use crate::sides::{Side, Sides};
+use crate::sides::{BYTES, Side, Sides};
 use crate::told::{Made, Told};
 use answers::StorageReport;
 use packets::{Packet, PacketRefusal, Store};
@@ -23,6 +22,8 @@ fn shown_by(part: &[u8], shown: &mut [u8; 64]) -> Told {
     Told::Shown(part.len())
 }
 
+// Here and below each part of both stores is named: the packet layer's contracts speak of each, and one function over its functions would be an `Fn` of
+// thirteen parameters, where twelve are the most.
 fn read(packet: Packet, on: &Side, ex: &Side, shown: &mut [u8; 64]) -> Told {
     let part = packet_asking::read(
         packet,
@@ -31,13 +32,13 @@ fn read(packet: Packet, on: &Side, ex: &Side, shown: &mut [u8; 64]) -> Told {
         &on.head.used_bins,
         &on.nodes,
         &on.free_nodes,
-        sides::lent(&on.bytes, on.lent),
+        &on.bytes[..on.lent.min(BYTES)],
         ex.head.totals,
         &ex.head.bin_indices,
         &ex.head.used_bins,
         &ex.nodes,
         &ex.free_nodes,
-        sides::lent(&ex.bytes, ex.lent),
+        &ex.bytes[..ex.lent.min(BYTES)],
     );
     shown_by(part, shown)
 }
@@ -50,13 +51,13 @@ fn length(packet: Packet, on: &Side, ex: &Side) -> Result<Size, PacketRefusal> {
         &on.head.used_bins,
         &on.nodes,
         &on.free_nodes,
-        sides::lent(&on.bytes, on.lent),
+        &on.bytes[..on.lent.min(BYTES)],
         ex.head.totals,
         &ex.head.bin_indices,
         &ex.head.used_bins,
         &ex.nodes,
         &ex.free_nodes,
-        sides::lent(&ex.bytes, ex.lent),
+        &ex.bytes[..ex.lent.min(BYTES)],
     )
 }
 
@@ -68,13 +69,13 @@ fn report(store: Store, on: &Side, ex: &Side) -> Result<StorageReport, PacketRef
         &on.head.used_bins,
         &on.nodes,
         &on.free_nodes,
-        sides::lent(&on.bytes, on.lent),
+        &on.bytes[..on.lent.min(BYTES)],
         ex.head.totals,
         &ex.head.bin_indices,
         &ex.head.used_bins,
         &ex.nodes,
         &ex.free_nodes,
-        sides::lent(&ex.bytes, ex.lent),
+        &ex.bytes[..ex.lent.min(BYTES)],
     )
 }
 
@@ -88,13 +89,13 @@ fn audit(store: Store, on: &Side, ex: &Side) -> Result<(), PacketRefusal> {
         &on.head.used_bins,
         &on.nodes,
         &on.free_nodes,
-        sides::lent(&on.bytes, on.lent),
+        &on.bytes[..on.lent.min(BYTES)],
         ex.head.totals,
         &ex.head.bin_indices,
         &ex.head.used_bins,
         &ex.nodes,
         &ex.free_nodes,
-        sides::lent(&ex.bytes, ex.lent),
+        &ex.bytes[..ex.lent.min(BYTES)],
     )
 }
 

@@ -1,7 +1,7 @@
 // Setup of one store, its head by value, and of both, in place.
-use crate::sides::Sides;
+use crate::sides::{BYTES, Sides};
+use crate::told;
 use crate::told::{Made, Told};
-use crate::{sides, told};
 use packets::Store;
 use small_float::Size;
 
@@ -13,9 +13,9 @@ pub fn set_up(store: Store, size: Size, max_allocs: u32, before: Sides) -> Made 
         max_allocs,
         &mut meant.nodes,
         &mut meant.free_nodes,
-        sides::lent(&meant.bytes, meant.lent),
+        &meant.bytes[..meant.lent.min(BYTES)],
         beside.head.totals,
-        sides::lent(&beside.bytes, beside.lent),
+        &beside.bytes[..beside.lent.min(BYTES)],
     );
     meant.head = started.left;
     told::nothing_read(
@@ -42,14 +42,14 @@ pub fn set_up_both(on_wanted: Wanted, ex_wanted: Wanted, before: Sides) -> Made 
         &mut on.head.used_bins,
         &mut on.nodes,
         &mut on.free_nodes,
-        sides::lent(&on.bytes, on.lent),
+        &on.bytes[..on.lent.min(BYTES)],
         Size(ex_wanted.size),
         ex_wanted.max_allocs,
         &mut ex.head.bin_indices,
         &mut ex.head.used_bins,
         &mut ex.nodes,
         &mut ex.free_nodes,
-        sides::lent(&ex.bytes, ex.lent),
+        &ex.bytes[..ex.lent.min(BYTES)],
     );
     on.head.totals = started.left.on_chip;
     ex.head.totals = started.left.external;

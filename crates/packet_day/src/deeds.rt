@@ -8,8 +8,6 @@ use packets::Packet;
 
 #[derive(Clone, Copy)]
 pub enum Deed {
-    // A node that never handed a packet back has none to read.
-    Nothing,
     // so many bytes
     Take(u32),
     HandBack(Packet),
@@ -22,14 +20,12 @@ pub enum Deed {
     ReadStale(Packet),
 }
 
-fn of_empty(told: &mut Told, last: Option<Packet>) -> Deed {
+// A node that never handed a packet back has none to read.
+fn of_empty(told: &mut Told, last: Option<Packet>) -> Option<Deed> {
     if told.draw(4) != 0 {
-        return Deed::Take(1 + told.draw(nodes::LONGEST as u32));
+        return Some(Deed::Take(1 + told.draw(nodes::LONGEST as u32)));
     }
-    match last {
-        Some(packet) => Deed::ReadStale(packet),
-        None => Deed::Nothing,
-    }
+    last.map(Deed::ReadStale)
 }
 
 // At times with more bytes than the packet holds.
@@ -48,18 +44,18 @@ fn of_holding(told: &mut Told, held: Held) -> Deed {
     }
 }
 
-// The number of a node, and what it does.
+// The number of a node, and what it does, if anything.
 #[derive(Clone, Copy)]
 pub struct Planned {
     pub at: usize,
-    pub deed: Deed,
+    pub deed: Option<Deed>,
     ghost a_node: { at < 800 },
 }
 
 pub fn plan(told: &mut Told, nodes: &[Node; nodes::NODES]) -> Planned {
     let at = told.draw(nodes::NODES as u32) as usize;
     let deed = match nodes[at].held {
-        Some(held) => of_holding(told, held),
+        Some(held) => Some(of_holding(told, held)),
         None => of_empty(told, nodes[at].last),
     };
     Planned { at, deed }

@@ -8,8 +8,3 @@ pub fn write(bytes: &mut [u8], first: u8) {
         next = next.wrapping_add(1);
     }
 }
-
-// The first bytes, so many of them.
-pub fn front(bytes: &[u8; 256], n: u32) -> &[u8] {
-    &bytes[..256.min(n as usize)]
-}

@@ -10,7 +10,7 @@ use small_float::Size;
 fn fill(told: &mut Told, stores: &mut Stores, node: &mut Node, held: Held, many: u32, first: u8) {
     let mut new = [0; 256];
     runs::write(&mut new, first);
-    let answer = stores.fill(held.packet, runs::front(&new, many));
+    let answer = stores.fill(held.packet, &new[..256.min(many as usize)]);
     outcomes::of_fill(told, node, held, many, first, answer);
 }
 
@@ -24,18 +24,18 @@ pub fn step(told: &mut Told, stores: &mut Stores, nodes: &mut [Node; NODES]) {
     let planned = deeds::plan(told, nodes);
     let node = &mut nodes[planned.at];
     match planned.deed {
-        Deed::Nothing => {}
-        Deed::Take(many) => {
+        None => {}
+        Some(Deed::Take(many)) => {
             let answer = stores.take(Size(many));
             outcomes::of_take(told, node, many, answer);
         }
-        Deed::HandBack(packet) => {
+        Some(Deed::HandBack(packet)) => {
             let answer = stores.hand_back(packet);
             outcomes::of_back(told, node, packet, answer);
         }
-        Deed::Fill(held, many, first) => fill(told, stores, node, held, many, first),
-        Deed::Read => reads::read_held(told, false, node, stores),
-        Deed::HandBackElsewhere(packet) => hand_back_elsewhere(told, stores, node, packet),
-        Deed::ReadStale(packet) => reads::read_stale(told, packet, nodes, stores),
+        Some(Deed::Fill(held, many, first)) => fill(told, stores, node, held, many, first),
+        Some(Deed::Read) => reads::read_held(told, false, node, stores),
+        Some(Deed::HandBackElsewhere(packet)) => hand_back_elsewhere(told, stores, node, packet),
+        Some(Deed::ReadStale(packet)) => reads::read_stale(told, packet, nodes, stores),
     }
 }

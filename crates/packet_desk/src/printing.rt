@@ -1,5 +1,5 @@
 // A call's answer, as it is printed behind the call.
-use packet_copies::sides;
+use packet_copies::sides::BYTES;
 use packet_copies::told::{Made, Told};
 use packets::{Packet, Store};
 use std::fmt;
@@ -58,7 +58,7 @@ impl<'a> fmt::Display for Answer<'a> {
             Ok(Told::Granted(packet)) => write!(f, "{}", Granted(packet)),
             Ok(Told::Length(length)) => write!(f, "{}", length.0),
             Ok(Told::Report(figures)) => write!(f, "{}", figures.largest_free_region.0),
-            Ok(Told::Shown(many)) => write!(f, "{}", Bytes(sides::lent(&made.shown, many))),
+            Ok(Told::Shown(many)) => write!(f, "{}", Bytes(&made.shown[..many.min(BYTES)])),
             Err(why) => write!(f, "refusal {}", why.number()),
         }
     }

@@ -1,6 +1,5 @@
 // What came of a call, as a line.
-use packet_copies::sides;
-use packet_copies::sides::{Side, Sides};
+use packet_copies::sides::{BYTES, Side, Sides};
 use packet_copies::told::{Made, Told};
 use std::fmt;
 
@@ -55,7 +54,7 @@ impl<'a> fmt::Display for Answer<'a> {
             }
             Ok(Told::Shown(0)) => f.write_str("0"),
             Ok(Told::Shown(many)) => {
-                let shown = sides::lent(&made.shown, many);
+                let shown = &made.shown[..many.min(BYTES)];
                 write!(f, "{many} {}", Hexadecimal(shown))
             }
             Err(why) => write!(f, "{}", why.number()),

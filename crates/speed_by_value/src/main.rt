@@ -6,9 +6,10 @@
 // The oracle's `speed RUN SIZE RECORDS CALLS` does the same with the Rust, and prints the same two lines. docs/SPEED.md has the figures.
 #![tactic(auto)]
 
-use driving::{by_value, rows};
+use driving::by_value::ByValue;
+use driving::{form, rows};
 use std::io;
 
 fn main(rt: HostRuntime) -> io::Result<()> {
-    rows::drive_each(&rt, b'v', by_value::drive)
+    rows::drive_each(&rt, b'v', form::drive::<ByValue>)
 }

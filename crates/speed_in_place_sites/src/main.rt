@@ -9,14 +9,15 @@
 
 mod audits;
 
+use driving::in_place::InPlace;
 use driving::rows::Plan;
-use driving::{in_place, rows};
+use driving::{form, rows};
 use oracle_lists::rows::Reader;
 use std::io;
 
 fn answer(rt: &impl Print, row: Reader) -> io::Result<()> {
     match (row.letter, row.fields) {
-        (b'p', 4) => println!(rt; "{}", in_place::drive(Plan::from(row))),
+        (b'p', 4) => println!(rt; "{}", form::drive::<InPlace>(Plan::from(row))),
         (b'a', 2) if audits::drive(row.c, row.d) => println!(rt; "sound"),
         (b'a', 2) => Ok(()),
         _ => println!(rt; "a row is p RUN SIZE RECORDS CALLS or a SETUPS AUDITS"),
@@ -24,11 +25,5 @@ fn answer(rt: &impl Print, row: Reader) -> io::Result<()> {
 }
 
 fn main(rt: HostRuntime) -> io::Result<()> {
-    for _ in 0..rows::MOST_ROWS {
-        let row = rows::next();
-        if row.is_whole() {
-            answer(&rt, row)?;
-        }
-    }
-    Ok(())
+    rows::each_row(rows::MOST_ROWS, |row| answer(&rt, row))
 }

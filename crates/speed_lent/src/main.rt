@@ -6,9 +6,10 @@
 // The oracle's `speed RUN SIZE RECORDS CALLS` does the same with the Rust, and prints the same two lines. docs/SPEED.md has the figures.
 #![tactic(auto)]
 
-use driving::{lent, rows};
+use driving::lent::Lent;
+use driving::{form, rows};
 use std::io;
 
 fn main(rt: HostRuntime) -> io::Result<()> {
-    rows::drive_each(&rt, b'l', lent::drive)
+    rows::drive_each(&rt, b'l', form::drive::<Lent>)
 }

@@ -27,11 +27,5 @@ fn answer(rt: &impl Print, row: Reader) -> io::Result<()> {
 }
 
 fn main(rt: HostRuntime) -> io::Result<()> {
-    for _ in 0..4 {
-        let row = rows::next();
-        if row.is_whole() {
-            answer(&rt, row)?;
-        }
-    }
-    Ok(())
+    rows::each_row(4, |row| answer(&rt, row))
 }

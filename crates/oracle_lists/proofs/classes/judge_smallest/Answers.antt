@@ -2,7 +2,7 @@
 use Rattle.std.specs.Prelude.{Result, Ok, Err}
 use Rattle.small_float.specs.declared.ext.TooLarge.{TooLarge}
 use Prim.Native.Nat.{ℕ}
-use mathlib.Core.Path.{◌≡◌, subst}
+use mathlib.Core.Path.{◌≡◌, ◌∙◌, sym, subst}
 use mathlib.Core.Bool.{cond}
 use native.Mathlib.Omega.{arith}
 use lib.Dec.{eqb}
@@ -34,17 +34,12 @@ module _ (size smallest : ℕ) {answer : Result Size TooLarge} (right : Smallest
         | to_none high past e ↦ rw e
       ]
 
-pub returns-then-store-smallest : goal.returns-then-store-smallest
-returns-then-store-smallest c =
-    rw (served c.args.size _ c.min_allocator_size.ensures _ c.in-Ok.is, eq-eqb _ _ c.if-store-smallest.true)
+pub returns-in-Ok : goal.returns-in-Ok
+returns-in-Ok c = c.from.ensures ∙ sym (served c.args.size _ c.min_allocator_size.ensures _ c.in-Ok.is)
 
 pub returns-then-smallest-eq0 : goal.returns-then-smallest-eq0
 returns-then-smallest-eq0 c =
     rw (refused c.args.size _ c.min_allocator_size.ensures c.in-Err.is, eq-eqb _ _ c.if-smallest-eq0.true)
-
-pub returns-else-store-smallest : goal.returns-else-store-smallest
-returns-else-store-smallest c =
-    rw (served c.args.size _ c.min_allocator_size.ensures _ c.in-Ok.is, ne_eqb _ _ c.if-store-smallest.false)
 
 pub returns-else-smallest-eq0 : goal.returns-else-smallest-eq0
 returns-else-smallest-eq0 c =
