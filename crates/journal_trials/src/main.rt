@@ -20,9 +20,8 @@ const EVERY: u32 = 1000;
 
 fn main(rt: HostRuntime) -> io::Result<()> {
     let mut buffer = [0u8; 65536];
-    let mut journal = [0u8; 131072];
     let mut out = Lines::new();
-    rows::replay_all(&rt, &mut buffer, &mut journal, &mut out)?;
+    rows::replay_all(&rt, &mut buffer, &mut out)?;
     room::try_all(&rt)?;
     damage::try_drawn(&rt, DAMAGED, EVERY, &mut out)
 }

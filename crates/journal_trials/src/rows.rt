@@ -1,5 +1,6 @@
 // A row is a journal: its bytes in hexadecimal, and `z`, a number and a dot for as many zeros.
 use crate::replaying_one;
+use arrayvec::ArrayVec;
 use journal_lines::Lines;
 use std::io;
 use std::io::Read;
@@ -16,10 +17,11 @@ enum Part {
     Zeros(u32),
 }
 
-// The row that is being read: how many bytes its journal has so far, and what has been read of the next ones; and how many rows came before it.
+// The row that is being read: its journal so far, and what has been read of the next bytes; and how many rows came before it.
 #[derive(Drop)]
 struct Rows {
-    len: usize,
+    // bytes behind as many as fit are passed over
+    journal: ArrayVec<u8, 131072>,
     part: Option<Part>,
     rows: u64,
 }
@@ -39,23 +41,20 @@ fn counted(byte: u8) -> u8 {
 }
 
 impl Rows {
-    fn put(&mut self, journal: &mut [u8], byte: u8) {
-        if self.len < journal.len() {
-            journal[self.len] = byte;
-            self.len += 1;
-        }
+    fn put(&mut self, byte: u8) {
+        let _ = self.journal.try_push(byte);
     }
 
-    fn put_zeros(&mut self, journal: &mut [u8], count: u32) {
+    fn put_zeros(&mut self, count: u32) {
         for _ in 0..count {
-            self.put(journal, 0);
+            self.put(0);
         }
     }
 
     // A digit of the number of zeros, or the dot behind it.
-    fn count_on(&mut self, count: u32, byte: u8, journal: &mut [u8]) {
+    fn count_on(&mut self, count: u32, byte: u8) {
         if byte == b'.' {
-            self.put_zeros(journal, count);
+            self.put_zeros(count);
             self.part = None;
             return;
         }
@@ -64,13 +63,13 @@ impl Rows {
     }
 
     // One byte of a row more.
-    fn feed(&mut self, byte: u8, journal: &mut [u8]) {
+    fn feed(&mut self, byte: u8) {
         match self.part {
-            Some(Part::Zeros(count)) => self.count_on(count, byte, journal),
+            Some(Part::Zeros(count)) => self.count_on(count, byte),
             _ if byte == b'z' => self.part = Some(Part::Zeros(0)),
             Some(Part::Half(first)) => {
                 let whole = u32::from(first) * 16 + u32::from(counted(byte));
-                self.put(journal, (whole % 256) as u8);
+                self.put((whole % 256) as u8);
                 self.part = None;
             }
             None => self.part = Some(Part::Half(counted(byte))),
@@ -78,27 +77,21 @@ impl Rows {
     }
 
     // A row ends: its journal is replayed.
-    fn end_row(&mut self, rt: &impl Print, journal: &[u8], out: &mut Lines) -> io::Result<()> {
+    fn end_row(&mut self, rt: &impl Print, out: &mut Lines) -> io::Result<()> {
         self.rows = self.rows.saturating_add(1);
         println!(rt; "journal {}", self.rows)?;
-        replaying_one::show(journal_lines::front(journal, self.len), out);
-        self.len = 0;
+        replaying_one::show(&self.journal, out);
+        self.journal.clear();
         self.part = None;
         Ok(())
     }
 
     // One byte of the input more.
-    fn read(
-        &mut self,
-        rt: &impl Print,
-        byte: u8,
-        journal: &mut [u8],
-        out: &mut Lines,
-    ) -> io::Result<()> {
+    fn read(&mut self, rt: &impl Print, byte: u8, out: &mut Lines) -> io::Result<()> {
         if byte == b'\n' {
-            return self.end_row(rt, journal, out);
+            return self.end_row(rt, out);
         }
-        self.feed(byte, journal);
+        self.feed(byte);
         Ok(())
     }
 }
@@ -108,12 +101,11 @@ impl Rows {
 pub fn replay_all(
     rt: &(impl Input + Print),
     buffer: &mut [u8; 65536],
-    journal: &mut [u8; 131072],
     out: &mut Lines,
 ) -> io::Result<()> {
     let mut input = rt.reader().take(MOST);
     let mut rows = Rows {
-        len: 0,
+        journal: ArrayVec::new(),
         part: None,
         rows: 0,
     };
@@ -123,7 +115,7 @@ pub fn replay_all(
             break;
         }
         for byte in &buffer[..n] {
-            rows.read(rt, *byte, journal, out)?;
+            rows.read(rt, *byte, out)?;
         }
     }
     Ok(())

@@ -1,63 +1,60 @@
 // The text read so far, and the records that wait to be written.
 use crate::complaints::Complaint;
+use arrayvec::ArrayVec;
 use calls::Call;
 
 #[derive(Drop)]
 pub struct Progress {
-    // the line that is being read, and how many bytes it has; 201 stands for any number above 200
-    line: [u8; 201],
-    length: usize,
+    // the line that is being read; a full one stands for any that has more than 200 bytes
+    line: ArrayVec<u8, 201>,
     // lines that have ended
     lines: u64,
-    // records, and how many bytes of them wait
-    records: [u8; 65536],
-    waiting: usize,
+    // records that wait
+    records: ArrayVec<u8, 65536>,
 }
 
 impl Progress {
     pub fn new() -> Progress {
         Progress {
-            line: [0; 201],
-            length: 0,
+            line: ArrayVec::new(),
             lines: 0,
-            records: [0; 65536],
-            waiting: 0,
+            records: ArrayVec::new(),
         }
     }
 
     // One byte more of the line; past 200 they are not kept.
     fn keep(&mut self, byte: u8) {
-        if self.length < 201 {
-            self.line[self.length] = byte;
-            self.length += 1;
-        }
+        let _ = self.line.try_push(byte);
     }
 
     // What waits is written.
     pub fn flush(&mut self, rt: &impl Print) -> Result<(), Complaint> {
-        let written = rt.write_all(journal_lines::front(&self.records, self.waiting));
-        self.waiting = 0;
+        let written = rt.write_all(&self.records);
+        self.records.clear();
         written.or(Err(Complaint::Output))
     }
 
     // A record behind those that wait: the longest has 12 bytes, so that there is room for one after what waits is written.
     fn record(&mut self, rt: &impl Print, call: Call) -> Result<(), Complaint> {
-        if 65000 <= self.waiting {
+        let mut record = [0u8; 12];
+        let n = journal::writing::write(call, &mut record, 0)?;
+        if 65000 <= self.records.len() {
             self.flush(rt)?;
         }
-        self.waiting = journal::writing::write(call, &mut self.records, self.waiting)?;
-        Ok(())
+        let kept = self
+            .records
+            .try_extend_from_slice(journal_lines::front(&record, n));
+        kept.or(Err(Complaint::Output))
     }
 
     // A whole line, by what it holds.
     fn end_line(&mut self, rt: &impl Print) -> Result<(), Complaint> {
-        let length = self.length;
-        self.length = 0;
+        let line = self.line.take();
         self.lines = self.lines.saturating_add(1);
-        if 200 < length {
+        if line.is_full() {
             return Err(Complaint::Length(self.lines));
         }
-        match journal_text::reading::read_line(journal_lines::front(&self.line, length)) {
+        match journal_text::reading::read_line(&line) {
             Ok(Some(call)) => self.record(rt, call),
             Ok(None) => Ok(()),
             Err(fault) => Err(Complaint::Fault(self.lines, fault)),
@@ -75,7 +72,7 @@ impl Progress {
 
     // The text has ended.
     pub fn at_end(&mut self, rt: &impl Print) -> Result<(), Complaint> {
-        if self.length == 0 {
+        if self.line.is_empty() {
             return Ok(());
         }
         self.end_line(rt)
