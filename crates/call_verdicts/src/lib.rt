@@ -32,9 +32,9 @@ fn judge_numbers(row: Reader, said: Said) -> Verdict
     }
 }
 
-// One form's answer, if there is a row that says it. The listed differences are rows of spans that the port refuses. `b OFFSET RECORD` and `u OFFSET RECORD LENGTH`: the record is not
-// live, and the Rust panics, or gives a length that means nothing. `w OFFSET RECORD` and `m OFFSET RECORD LENGTH`: it is live but starts elsewhere, and the
-// Rust goes by the record alone.
+// One form's answer, if there is a row that says it. The listed differences are rows of spans that the port refuses. `b OFFSET RECORD` and
+// `u OFFSET RECORD LENGTH`: the record is not live, and the Rust panics, or gives a length that means nothing. `w OFFSET RECORD` and
+// `m OFFSET RECORD LENGTH`: it is live but starts elsewhere, and the Rust goes by the record alone.
 #[tactic(auto, unfolding(crate::specs::Verdicts::call_verdict))]
 pub fn judge(row: Reader, said: Option<Said>) -> Verdict
     ensures { result ≡ call_verdict row said }
