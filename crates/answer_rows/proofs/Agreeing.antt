@@ -1,14 +1,13 @@
 -- An answer is found again from the row that it is put as. Assumes nothing.
 use Prim.Native.Nat.{ℕ, ◌≤◌}
 use mathlib.Core.Path.{◌≡◌, refl, sym, ap, ◌∙◌}
-use Rattle.std.specs.Prelude.{Option, None, Some}
+use Rattle.std.specs.Prelude.{Some}
 use mathlib.Core.Logic.{◌≢◌, ◌⊎◌, inl, inr}
 use native.Mathlib.Omega.{arith}
 use Rattle.basics.proofs.Decided.{same?, same, differ}
 use Rattle.oracle_lists.specs.declared.rows.Reader.{Reader}
 use Rattle.call_verdicts.specs.declared.Said.{Said}
-use Rattle.oracle_lists.specs.declared.tally.Verdict.{Verdict}
-use Rattle.oracle_lists.specs.declared.tally.Verdict.TheVariants.{Agrees, Listed, Differs}
+use Rattle.oracle_lists.specs.declared.tally.Verdict.TheVariants.{Agrees, Listed}
 use Rattle.call_verdicts.specs.Verdicts.{call_verdict}
 use Rattle.call_verdicts.proofs.Facts.{verdict_facts}
 use Rattle.call_values.specs.declared.answer.Answer.{Answer}
@@ -145,17 +144,6 @@ x_back call.Report (answer.Refused n) s e x = cc
 x_back (call.ClassOf class) (answer.Refused n) s e x = cc
 x_back call.ClassesHeld (answer.Refused n) s e x = cc
 
--- what agrees, or is listed, was held against a row
-record Row (o : Option Said) (r : Reader) (v : Verdict) : Type 0 where
-  said : Said
-  is : o ≡ Some said
-  judged : call_verdict r (Some said) ≡ v
-
-row_of : (o : Option Said) (r : Reader) (v : Verdict) → (Differs ≡ v → ⊥) → call_verdict r o ≡ v → Row o r v
-unfolding call_verdict
-row_of None r v not e = absurd (not e)
-row_of (Some s) r v not e = record { said = s; is = refl; judged = e }
-
 same_answer : (l c d m e f : ℕ) → l ≡ m → c ≡ e → d ≡ f → answer_in m e f ≡ answer_in l c d
 same_answer l c d m e f p q r = sym (rw (p, q, r))
 
@@ -165,9 +153,8 @@ pub agrees_with : (r : Reader) (c : Call) (a : Answer)
     → r.letter ≢ 120
     → a ≡ answer_in r.letter r.c r.d
 agrees_with r c a e low x =
-    let row = row_of (said_of c a) r Agrees (λ f. cc) e in
-    let only = verdict_facts.agrees_only r row.said row.judged in
-    let told = told_back c a row.said row.is (λ f. x (only.0 ∙ f)) in
+    let (said, (its, only)) = verdict_facts.agrees_only r (said_of c a) e in
+    let told = told_back c a said its (λ f. x (only.0 ∙ f)) in
     told ∙ same_answer _ _ _ _ _ _ only.0 only.1 only.2
 
 pub x_agrees_with : (r : Reader) (c : Call) (a : Answer)
@@ -175,8 +162,8 @@ pub x_agrees_with : (r : Reader) (c : Call) (a : Answer)
     → r.letter ≡ 120
     → (a ≡ answer.Refused 3) ⊎ (a ≡ answer.Refused 4)
 x_agrees_with r c a e is =
-    let row = row_of (said_of c a) r Agrees (λ f. cc) e in
-    x_back c a row.said row.is (sym (verdict_facts.agrees_only r row.said row.judged).0 ∙ is)
+    let (said, (its, only)) = verdict_facts.agrees_only r (said_of c a) e in
+    x_back c a said its (sym only.0 ∙ is)
 
 -- ---- a listed difference
 -- an answer that is put as a row of this letter, which stands for one refusal whatever its numbers are
@@ -195,9 +182,8 @@ pub listed_is_5_or_8 : (r : Reader) (c : Call) (a : Answer) → call_verdict r (
     → (((r.letter ≡ 98) ⊎ (r.letter ≡ 117)) × (a ≡ answer.Refused 5))
     ⊎ (((r.letter ≡ 119) ⊎ (r.letter ≡ 109)) × (a ≡ answer.Refused 8))
 listed_is_5_or_8 r c a e =
-    let row = row_of (said_of c a) r Listed (λ f. cc) e in
-    let only = verdict_facts.listed_only r row.said row.judged in
-    go row.said row.is only.0 only.2
+    let (said, (its, only)) = verdict_facts.listed_only r (said_of c a) e in
+    go said its only.0 only.2
   where
     go : (s : Said)
         → said_of c a ≡ Some s

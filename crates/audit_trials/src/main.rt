@@ -6,10 +6,9 @@ mod rows;
 
 use oracle_lists::input;
 use rows::Comparison;
-use std::io;
 
-fn main(rt: HostRuntime) -> io::Result<()> {
+fn main(rt: HostRuntime) {
     let mut comparison = Comparison::new();
     input::for_each_block(&rt, |bytes| comparison.feed_all(bytes));
-    input::print_outcome(&rt, comparison.tally, comparison.reader)
+    input::print_outcome(&rt, comparison.read.tally, comparison.read.reader);
 }

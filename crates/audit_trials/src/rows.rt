@@ -6,12 +6,18 @@ use audit_verdicts::State;
 use oracle_lists::rows::Reader;
 use oracle_lists::tally::{Tally, Verdict};
 
-// The list read so far: the row that is being read, the tally of those before it, and the store that they made.
+// The list read so far: the row that is being read, the tally of those before it, and the store that they made, but for its arrays.
 #[derive(Clone, Copy)]
-pub struct Comparison {
+pub struct Read {
     pub reader: Reader,
     pub tally: Tally,
     state: State,
+}
+
+// The same with the arrays.
+#[derive(Clone, Copy)]
+pub struct Comparison {
+    pub read: Read,
     heads: [u32; 256],
     leaves: [u8; 32],
     nodes: [u32; 96],
@@ -21,9 +27,11 @@ pub struct Comparison {
 impl Comparison {
     pub fn new() -> Comparison {
         Comparison {
-            reader: Reader::new(),
-            tally: Tally::new(),
-            state: State::new(),
+            read: Read {
+                reader: Reader::new(),
+                tally: Tally::new(),
+                state: State::new(),
+            },
             heads: [0; 256],
             leaves: [0; 32],
             nodes: [0; 96],
@@ -44,8 +52,7 @@ impl Comparison {
     }
 
     // A part's letter, an index, a value and an answer; or the lengths of a new store.
-    fn spoil(&mut self, row: Reader) -> Verdict {
-        let state = self.state;
+    fn spoil(&mut self, state: State, row: Reader) -> Verdict {
         let (i, v, said) = (row.b, row.c, row.d);
         let heads = &mut self.heads;
         let leaves = &mut self.leaves;
@@ -63,10 +70,9 @@ impl Comparison {
     }
 
     // A whole row.
-    fn judge_row(&mut self, row: Reader) -> Verdict {
-        let state = self.state;
+    fn judge_row(&mut self, state: State, row: Reader) -> Verdict {
         match (row.letter, row.fields) {
-            (_, 3) => self.spoil(row),
+            (_, 3) => self.spoil(state, row),
             (_, 2) => self.put(row),
             (b'a', 1) => audit_verdicts::judge(
                 state,
@@ -80,22 +86,28 @@ impl Comparison {
         }
     }
 
-    // One byte more; where it ends a row, the row is judged.
-    fn feed(&mut self, byte: u8) {
-        let reader = self.reader.feed(byte);
-        self.reader = reader;
+    // One byte more of what was read; where it ends a row, the row is judged, and counted.
+    fn feed(&mut self, read: Read, byte: u8) -> Read {
+        let reader = read.reader.feed(byte);
         if reader.is_whole() {
-            let verdict = self.judge_row(reader);
-            self.tally = self.tally.count(verdict);
-            self.state = after(self.state, reader);
+            let verdict = self.judge_row(read.state, reader);
+            return Read {
+                reader,
+                tally: read.tally.count(verdict),
+                state: after(read.state, reader),
+            };
         }
+        Read { reader, ..read }
     }
 
-    // All of the bytes, in order.
+    // All of the bytes, in order. What was read goes from turn to turn and is put back behind the last of them: put back behind each it took a third
+    // more time.
     pub fn feed_all(&mut self, bytes: &[u8]) {
+        let mut read = self.read;
         for byte in bytes {
-            self.feed(*byte);
+            read = self.feed(read, *byte);
         }
+        self.read = read;
     }
 }
 

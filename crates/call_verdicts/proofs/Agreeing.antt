@@ -1,10 +1,10 @@
 -- A row of the list of runs agrees with one letter and two numbers alone: where one of them differs, so does the verdict. And which rows show a
 -- listed difference. Assumes nothing.
-use mathlib.Core.Path.{◌≡◌, sym, ◌∙◌}
+use mathlib.Core.Path.{◌≡◌, refl, sym, ◌∙◌}
 use mathlib.Core.Logic.{◌⊎◌, inl, inr}
 use mathlib.Core.Bool.{cond}
 use Prim.Native.Nat.{ℕ}
-use Rattle.std.specs.Prelude.{Some}
+use Rattle.std.specs.Prelude.{Option, None, Some}
 use lib.Dec.{eqb}
 use Rattle.basics.proofs.Clash.{clash}
 use Rattle.basics.proofs.Decided.{same?, same, differ}
@@ -22,13 +22,19 @@ passed a b v e = elim (same? a b) [ same p f ↦ (p, sym (rw f) ∙ e) | differ 
 unlisted : (a b : ℕ) (v : Verdict) → cond (eqb a b) Listed v ≡ Agrees → v ≡ Agrees
 unlisted a b v e = elim (same? a b) [ same p f ↦ clash (cc) | differ p f ↦ sym (rw f) ∙ e ]
 
-pub agrees_only : (r : Reader) (s : Said) → call_verdict r (Some s) ≡ Agrees → (r.letter ≡ s.letter) × (r.c ≡ s.c) × (r.d ≡ s.d)
+agrees_said : (r : Reader) (s : Said) → call_verdict r (Some s) ≡ Agrees → (r.letter ≡ s.letter) × (r.c ≡ s.c) × (r.d ≡ s.d)
 unfolding call_verdict same_numbers
-agrees_only r s e =
+agrees_said r s e =
     let by-letter = passed r.letter s.letter _ e in
     let by-c = passed r.c s.c _ by-letter.1 in
     let by-d = passed r.d s.d _ (unlisted r.letter 109 _ (unlisted r.letter 117 _ by-c.1)) in
     (by-letter.0, by-c.0, by-d.0)
+
+pub agrees_only : (r : Reader) (s : Option Said) → call_verdict r s ≡ Agrees
+    → (t : Said) × ((s ≡ Some t) × ((r.letter ≡ t.letter) × (r.c ≡ t.c) × (r.d ≡ t.d)))
+unfolding call_verdict
+agrees_only r None e = clash (cc)
+agrees_only r (Some s) e = (s, (refl, agrees_said r s e))
 
 -- the same of a listed difference
 kept_listed : (a b : ℕ) (v : Verdict) → cond (eqb a b) v Differs ≡ Listed → (a ≡ b) × (v ≡ Listed)
@@ -61,12 +67,20 @@ in_listed letter d e is = elim (held_or letter 117 _ is) [
   ]
 ]
 
-pub listed_only : (r : Reader) (s : Said) → call_verdict r (Some s) ≡ Listed
+listed_said : (r : Reader) (s : Said) → call_verdict r (Some s) ≡ Listed
     → (r.letter ≡ s.letter)
     × (r.c ≡ s.c)
     × (((r.letter ≡ 117) ⊎ (r.letter ≡ 109)) ⊎ (((r.letter ≡ 98) ⊎ (r.letter ≡ 119)) × (r.d ≡ s.d)))
 unfolding call_verdict same_numbers
-listed_only r s e =
+listed_said r s e =
     let by-letter = kept_listed r.letter s.letter _ e in
     let by-c = kept_listed r.c s.c _ by-letter.1 in
     (by-letter.0, by-c.0, in_listed r.letter r.d s.d by-c.1)
+
+pub listed_only : (r : Reader) (s : Option Said) → call_verdict r s ≡ Listed
+    → (t : Said) × ((s ≡ Some t) × ((r.letter ≡ t.letter)
+    × (r.c ≡ t.c)
+    × (((r.letter ≡ 117) ⊎ (r.letter ≡ 109)) ⊎ (((r.letter ≡ 98) ⊎ (r.letter ≡ 119)) × (r.d ≡ t.d)))))
+unfolding call_verdict
+listed_only r None e = clash (cc)
+listed_only r (Some s) e = (s, (refl, listed_said r s e))

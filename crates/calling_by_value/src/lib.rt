@@ -6,7 +6,7 @@ ghost use Rattle.tables.specs.Words.{Words};
 ghost use Rattle.offset_allocator.specs.HeadWords.{head_words};
 ghost use Rattle.call_values.specs.declared.answer.Answer.{Answer as Told};
 ghost use Rattle.call_values.specs.declared.call.Call.TheVariants.{SetUp, Reset, Take, HandBack};
-ghost use Rattle.telling.specs.Made.{made, by_value};
+ghost use Rattle.telling.specs.Made.{made, made_if, by_value};
 
 use answers::{Allocation, Handle};
 use call_values::answer::Answer;
@@ -78,8 +78,7 @@ fn hand_back(
     }
 }
 
-// The call made, and its answer.
-pub fn make(call: Call, head: Head, nodes: &mut [u32], free_nodes: &mut [u32]) -> Called<Head>
+fn make_call(call: Call, head: Head, nodes: &mut [u32], free_nodes: &mut [u32]) -> Called<Head>
     ensures { ◌≡◌ {A = Told × Words} (result.answer, head_words result.left nodes.new free_nodes.new)
         (made by_value call (head_words head nodes.old free_nodes.old)) }
 {
@@ -102,6 +101,25 @@ pub fn make(call: Call, head: Head, nodes: &mut [u32], free_nodes: &mut [u32]) -
         },
         Call::ClassesHeld => Called {
             answer: asking_by_value::classes_held(head, nodes, free_nodes),
+            left: head,
+        },
+    }
+}
+
+// The call made, and its answer; where none is asked for, nothing is answered and nothing changes.
+pub fn make(
+    call: Option<Call>,
+    head: Head,
+    nodes: &mut [u32],
+    free_nodes: &mut [u32],
+) -> Called<Head>
+    ensures { ◌≡◌ {A = Told × Words} (result.answer, head_words result.left nodes.new free_nodes.new)
+        (made_if by_value call (head_words head nodes.old free_nodes.old)) }
+{
+    match call {
+        Some(call) => make_call(call, head, nodes, free_nodes),
+        None => Called {
+            answer: Answer::Nothing,
             left: head,
         },
     }

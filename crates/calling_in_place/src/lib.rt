@@ -6,7 +6,7 @@ ghost use Rattle.tables.specs.Words.{Words};
 ghost use Rattle.records.specs.InWords.{words_of};
 ghost use Rattle.call_values.specs.declared.answer.Answer.{Answer as Told};
 ghost use Rattle.call_values.specs.declared.call.Call.TheVariants.{SizeOf, Report, ClassOf, ClassesHeld};
-ghost use Rattle.telling.specs.Made.{made, in_place};
+ghost use Rattle.telling.specs.Made.{made, made_if, in_place};
 ghost use Rattle.calling_in_place.specs.Changed.{changed};
 
 use answers::{Allocation, Handle};
@@ -110,8 +110,7 @@ fn classes_held(
     told::of_classes(full)
 }
 
-// The call made, and its answer.
-pub fn make(
+fn make_call(
     call: Call,
     t: Totals,
     bin_indices: &mut [u32; 256],
@@ -173,6 +172,28 @@ pub fn make(
         },
         Call::ClassesHeld => Called {
             answer: classes_held(t, bin_indices, used_bins, nodes, free_nodes),
+            left: t,
+        },
+    }
+}
+
+// The call made, and its answer; where none is asked for, nothing is answered and nothing changes.
+pub fn make(
+    call: Option<Call>,
+    t: Totals,
+    bin_indices: &mut [u32; 256],
+    used_bins: &mut [u8; 32],
+    nodes: &mut [u32],
+    free_nodes: &mut [u32],
+) -> Called<Totals>
+    ensures { ◌≡◌ {A = Told × Words}
+        (result.answer, words_of result.left bin_indices.new used_bins.new nodes.new free_nodes.new)
+        (made_if in_place call (words_of t bin_indices.old used_bins.old nodes.old free_nodes.old)) }
+{
+    match call {
+        Some(call) => make_call(call, t, bin_indices, used_bins, nodes, free_nodes),
+        None => Called {
+            answer: Answer::Nothing,
             left: t,
         },
     }

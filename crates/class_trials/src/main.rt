@@ -3,10 +3,9 @@
 
 use oracle_lists::classes::Comparison;
 use oracle_lists::input;
-use std::io;
 
-fn main(rt: HostRuntime) -> io::Result<()> {
+fn main(rt: HostRuntime) {
     let mut comparison = Comparison::new();
     input::for_each_block(&rt, |bytes| comparison = comparison.feed_all(bytes));
-    input::print_outcome(&rt, comparison.tally, comparison.reader)
+    input::print_outcome(&rt, comparison.tally, comparison.reader);
 }

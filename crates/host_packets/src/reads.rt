@@ -16,7 +16,7 @@ fn copy_front(part: &[u8], out: &mut [u8])
     ensures { out.new ≡ fronted part.now out.old }
 {
     let many = part.len().min(out.len());
-    out[..many].copy_from_slice(&part[..many]);
+    parts::fill_front(out, &part[..many]);
 }
 
 fn shown(part: &[u8], out: &mut [u8]) -> usize

@@ -6,6 +6,7 @@ ghost use Rattle.std.specs.Prelude.{◌≡◌, ◌<◌, ◌≤◌};
 use calls::{Answer, Call};
 use journal::entry::Broken;
 use journal_text::writing;
+use std::fmt;
 use streams::STDOUT_FILENO;
 
 // How many bytes can wait.
@@ -51,7 +52,14 @@ impl Lines {
         self.waiting += 1;
     }
 
+    // As many bytes as there is room for are copied at once; past that they go one by one.
     pub fn put(&mut self, text: &[u8]) {
+        if text.len() <= ROOM - self.waiting {
+            let end = self.waiting + text.len();
+            self.bytes[self.waiting..end].copy_from_slice(text);
+            self.waiting = end;
+            return;
+        }
         for byte in text {
             self.byte(*byte);
         }
@@ -77,30 +85,44 @@ impl Lines {
         self.written(|line| writing::line_of(call, line));
     }
 
-    // The line that a replay prints for an answer.
-    pub fn answer_line(&mut self, answer: Answer) {
+    // What a replay prints for an answer.
+    pub fn answer(&mut self, answer: Answer) {
         self.written(|line| writing::line_of_answer(answer, line));
+    }
+
+    // The same as a line.
+    pub fn answer_line(&mut self, answer: Answer) {
+        self.answer(answer);
         self.put(b"\n");
     }
 
-    fn number_of(&mut self, why: Broken) {
+    // What it prints last, where a record cannot be read.
+    pub fn last(&mut self, why: Broken) {
         self.written(|line| writing::line_of_broken(why, line));
     }
 
-    // The one that it prints last, where a record cannot be read.
+    // The same as a line.
     pub fn last_line(&mut self, why: Broken) {
-        self.number_of(why);
+        self.last(why);
         self.put(b"\n");
     }
 
     // Why a record cannot be read: the number, and what it stands for.
     pub fn broken(&mut self, why: Broken) {
-        self.number_of(why);
+        self.last(why);
         self.put(match why {
             Broken::Cut => b": cut",
             Broken::UnknownKind => b": an unknown kind",
             Broken::WrongLength => b": a wrong length",
         });
+    }
+}
+
+// What is written by a format waits too, and nothing fails.
+impl fmt::Write for Lines {
+    fn write_str(&mut self, text: &str) -> fmt::Result {
+        self.put(text.as_bytes());
+        Ok(())
     }
 }
 

@@ -118,13 +118,16 @@ impl Bars {
         requires { «record» < 1024 }
     {
         let r = record as usize;
-        let Some(bar) = self.bars[r] else {
+        // for most records that is all: the bar itself is read where it ends
+        if self.bars[r].is_none() {
             return;
-        };
+        }
         if record < end.count && nodes::shown(nodes, record, Field::Used) != 0 {
             return;
         }
-        bar.draw(record, end, out);
+        if let Some(bar) = self.bars[r] {
+            bar.draw(record, end, out);
+        }
         self.bars[r] = None;
     }
 

@@ -11,17 +11,17 @@ mod room;
 mod rows;
 
 use journal_lines::Lines;
-use std::io;
 
 // How many damaged journals are tried, and how many between two lines.
 const DAMAGED: u32 = 100000;
 
 const EVERY: u32 = 1000;
 
-fn main(rt: HostRuntime) -> io::Result<()> {
+fn main(rt: HostRuntime) {
     let mut buffer = [0u8; 65536];
+    let mut journal = [0u8; 131072];
     let mut out = Lines::new();
-    rows::replay_all(&rt, &mut buffer, &mut out)?;
-    room::try_all(&rt)?;
-    damage::try_drawn(&rt, DAMAGED, EVERY, &mut out)
+    rows::replay_all(&rt, &mut buffer, &mut journal, &mut out);
+    room::try_all(&rt);
+    damage::try_drawn(&rt, DAMAGED, EVERY, &mut out);
 }

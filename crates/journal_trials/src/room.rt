@@ -4,7 +4,6 @@ use crate::counts;
 use answers::{Allocation, Handle};
 use calls::Call;
 use small_float::Size;
-use std::io;
 
 // How often there was room, how often not, and the sum.
 #[derive(Drop)]
@@ -49,7 +48,7 @@ impl Tried {
     }
 }
 
-pub fn try_all(rt: &impl Print) -> io::Result<()> {
+pub fn try_all(rt: &impl Print) {
     let mut tried = Tried {
         room: 0,
         none: 0,
@@ -63,7 +62,7 @@ pub fn try_all(rt: &impl Print) -> io::Result<()> {
     tried.try_call(Call::HandBack(span));
     tried.try_call(Call::SetUp(Size(1144201745), 2289526357));
     tried.try_call(Call::Reset);
-    println!(rt; "room {}", tried.room)?;
-    println!(rt; "no room {}", tried.none)?;
-    println!(rt; "bytes {}", tried.sum)
+    let _ = println!(rt; "room {}", tried.room);
+    let _ = println!(rt; "no room {}", tried.none);
+    let _ = println!(rt; "bytes {}", tried.sum);
 }

@@ -1,8 +1,6 @@
 // A row is a journal: its bytes in hexadecimal, and `z`, a number and a dot for as many zeros.
 use crate::replaying_one;
-use arrayvec::ArrayVec;
 use journal_lines::Lines;
-use std::io;
 use std::io::Read;
 
 // How many bytes of the input are read at most: the rows are few.
@@ -17,11 +15,10 @@ enum Part {
     Zeros(u32),
 }
 
-// The row that is being read: its journal so far, and what has been read of the next bytes; and how many rows came before it.
+// The row that is being read: how many bytes its journal has so far, and what has been read of the next ones; and how many rows came before it.
 #[derive(Drop)]
 struct Rows {
-    // bytes behind as many as fit are passed over
-    journal: ArrayVec<u8, 131072>,
+    len: usize,
     part: Option<Part>,
     rows: u64,
 }
@@ -41,20 +38,26 @@ fn counted(byte: u8) -> u8 {
 }
 
 impl Rows {
-    fn put(&mut self, byte: u8) {
-        let _ = self.journal.try_push(byte);
+    fn put(&mut self, journal: &mut [u8], byte: u8) {
+        if self.len < journal.len() {
+            journal[self.len] = byte;
+            self.len += 1;
+        }
     }
 
-    fn put_zeros(&mut self, count: u32) {
-        for _ in 0..count {
-            self.put(0);
+    // As many as there is room for.
+    fn put_zeros(&mut self, journal: &mut [u8], count: u32) {
+        let end = journal.len().min(self.len.saturating_add(count as usize));
+        if self.len < end {
+            journal[self.len..end].fill(0);
+            self.len = end;
         }
     }
 
     // A digit of the number of zeros, or the dot behind it.
-    fn count_on(&mut self, count: u32, byte: u8) {
+    fn count_on(&mut self, count: u32, byte: u8, journal: &mut [u8]) {
         if byte == b'.' {
-            self.put_zeros(count);
+            self.put_zeros(journal, count);
             self.part = None;
             return;
         }
@@ -63,13 +66,13 @@ impl Rows {
     }
 
     // One byte of a row more.
-    fn feed(&mut self, byte: u8) {
+    fn feed(&mut self, byte: u8, journal: &mut [u8]) {
         match self.part {
-            Some(Part::Zeros(count)) => self.count_on(count, byte),
+            Some(Part::Zeros(count)) => self.count_on(count, byte, journal),
             _ if byte == b'z' => self.part = Some(Part::Zeros(0)),
             Some(Part::Half(first)) => {
                 let whole = u32::from(first) * 16 + u32::from(counted(byte));
-                self.put((whole % 256) as u8);
+                self.put(journal, (whole % 256) as u8);
                 self.part = None;
             }
             None => self.part = Some(Part::Half(counted(byte))),
@@ -77,22 +80,20 @@ impl Rows {
     }
 
     // A row ends: its journal is replayed.
-    fn end_row(&mut self, rt: &impl Print, out: &mut Lines) -> io::Result<()> {
+    fn end_row(&mut self, rt: &impl Print, journal: &[u8], out: &mut Lines) {
         self.rows = self.rows.saturating_add(1);
-        println!(rt; "journal {}", self.rows)?;
-        replaying_one::show(&self.journal, out);
-        self.journal.clear();
+        let _ = println!(rt; "journal {}", self.rows);
+        replaying_one::show(journal_lines::front(journal, self.len), out);
+        self.len = 0;
         self.part = None;
-        Ok(())
     }
 
     // One byte of the input more.
-    fn read(&mut self, rt: &impl Print, byte: u8, out: &mut Lines) -> io::Result<()> {
+    fn read(&mut self, rt: &impl Print, byte: u8, journal: &mut [u8], out: &mut Lines) {
         if byte == b'\n' {
-            return self.end_row(rt, out);
+            return self.end_row(rt, journal, out);
         }
-        self.feed(byte);
-        Ok(())
+        self.feed(byte, journal);
     }
 }
 
@@ -101,11 +102,12 @@ impl Rows {
 pub fn replay_all(
     rt: &(impl Input + Print),
     buffer: &mut [u8; 65536],
+    journal: &mut [u8; 131072],
     out: &mut Lines,
-) -> io::Result<()> {
+) {
     let mut input = rt.reader().take(MOST);
     let mut rows = Rows {
-        journal: ArrayVec::new(),
+        len: 0,
         part: None,
         rows: 0,
     };
@@ -115,8 +117,7 @@ pub fn replay_all(
             break;
         }
         for byte in &buffer[..n] {
-            rows.read(rt, *byte, out)?;
+            rows.read(rt, *byte, journal, out);
         }
     }
-    Ok(())
 }

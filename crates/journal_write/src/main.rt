@@ -7,16 +7,14 @@ mod progress;
 
 use complaints::Complaint;
 use progress::Progress;
-use std::io;
-use std::io::Read;
 
-// The text to its end, and a read that fails is one; the last line may lack its newline. A proved loop has to end, and nothing says that the input does: so
+// The text to its end, a block of no bytes; the last line may lack its newline. A proved loop has to end, and nothing says that the input does: so
 // turns are counted, up to a number that no run reaches.
 fn write_text(rt: &(impl Input + Print), progress: &mut Progress) -> Result<(), Complaint> {
     let mut input = rt.reader();
     let mut buffer = [0u8; 65536];
     for _ in 0..u64::MAX {
-        let n = input.read(&mut buffer).unwrap_or(0);
+        let n = streams::read_block(&mut input, &mut buffer);
         if n == 0 {
             break;
         }
@@ -28,17 +26,15 @@ fn write_text(rt: &(impl Input + Print), progress: &mut Progress) -> Result<(), 
 }
 
 // Where it stopped, why.
-fn tell(rt: &impl Eprint, written: Result<(), Complaint>) -> io::Result<()> {
-    match written {
-        Ok(()) => Ok(()),
-        Err(why) => eprintln!(rt; "{why}"),
+fn tell(rt: &impl Eprint, written: Result<(), Complaint>) {
+    if let Err(why) = written {
+        let _ = eprintln!(rt; "{why}");
     }
 }
 
 // The records of the lines before a bad one are written all the same, and where that cannot be told.
-fn main(rt: HostRuntime) -> io::Result<()> {
+fn main(rt: HostRuntime) {
     let mut progress = Progress::new();
-    let read = tell(&rt, write_text(&rt, &mut progress));
-    tell(&rt, progress.flush(&rt))?;
-    read
+    tell(&rt, write_text(&rt, &mut progress));
+    tell(&rt, progress.flush(&rt));
 }

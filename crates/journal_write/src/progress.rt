@@ -1,60 +1,63 @@
 // The text read so far, and the records that wait to be written.
 use crate::complaints::Complaint;
-use arrayvec::ArrayVec;
 use calls::Call;
 
-#[derive(Drop)]
+#[derive(Clone, Copy)]
 pub struct Progress {
-    // the line that is being read; a full one stands for any that has more than 200 bytes
-    line: ArrayVec<u8, 201>,
+    // the line that is being read, and how many bytes it has; 201 stands for any number above 200
+    line: [u8; 201],
+    length: usize,
     // lines that have ended
     lines: u64,
-    // records that wait
-    records: ArrayVec<u8, 65536>,
+    // records, and how many bytes of them wait
+    records: [u8; 65536],
+    waiting: usize,
 }
 
 impl Progress {
     pub fn new() -> Progress {
         Progress {
-            line: ArrayVec::new(),
+            line: [0; 201],
+            length: 0,
             lines: 0,
-            records: ArrayVec::new(),
+            records: [0; 65536],
+            waiting: 0,
         }
     }
 
     // One byte more of the line; past 200 they are not kept.
     fn keep(&mut self, byte: u8) {
-        let _ = self.line.try_push(byte);
+        if self.length < 201 {
+            self.line[self.length] = byte;
+            self.length += 1;
+        }
     }
 
     // What waits is written.
     pub fn flush(&mut self, rt: &impl Print) -> Result<(), Complaint> {
-        let written = rt.write_all(&self.records);
-        self.records.clear();
+        let written = rt.write_all(journal_lines::front(&self.records, self.waiting));
+        self.waiting = 0;
         written.or(Err(Complaint::Output))
     }
 
     // A record behind those that wait: the longest has 12 bytes, so that there is room for one after what waits is written.
     fn record(&mut self, rt: &impl Print, call: Call) -> Result<(), Complaint> {
-        let mut record = [0u8; 12];
-        let n = journal::writing::write(call, &mut record, 0)?;
-        if 65000 <= self.records.len() {
+        if 65000 <= self.waiting {
             self.flush(rt)?;
         }
-        let kept = self
-            .records
-            .try_extend_from_slice(journal_lines::front(&record, n));
-        kept.or(Err(Complaint::Output))
+        self.waiting = journal::writing::write(call, &mut self.records, self.waiting)?;
+        Ok(())
     }
 
     // A whole line, by what it holds.
     fn end_line(&mut self, rt: &impl Print) -> Result<(), Complaint> {
-        let line = self.line.take();
+        let length = self.length;
+        self.length = 0;
         self.lines = self.lines.saturating_add(1);
-        if line.is_full() {
+        if 200 < length {
             return Err(Complaint::Length(self.lines));
         }
-        match journal_text::reading::read_line(&line) {
+        match journal_text::reading::read_line(journal_lines::front(&self.line, length)) {
             Ok(Some(call)) => self.record(rt, call),
             Ok(None) => Ok(()),
             Err(fault) => Err(Complaint::Fault(self.lines, fault)),
@@ -72,7 +75,7 @@ impl Progress {
 
     // The text has ended.
     pub fn at_end(&mut self, rt: &impl Print) -> Result<(), Complaint> {
-        if self.line.is_empty() {
+        if self.length == 0 {
             return Ok(());
         }
         self.end_line(rt)

@@ -25,6 +25,11 @@ first_named : (first : Option ℕ) (row : ℕ) → first_from first row ≡ None
 first_named None row e = cc
 first_named (Some first) row e = cc
 
+-- a row's number is not 0
+not_0 : (first : Option ℕ) (row : ℕ) → (first ≡ Some 0 → ⊥) → (row ≡ 0 → ⊥) → first_from first row ≡ Some 0 → ⊥
+not_0 None row p q e = q (cc)
+not_0 (Some first) row p q e = p e
+
 module _ (t : Tally) (sums : AddsUp t) (room : t.rows < 18_446_744_073_709_551_615) where
   row_counted : (v : Verdict) → (counted t v).rows ≡ t.rows + 1
   unfolding counted
@@ -37,14 +42,17 @@ module _ (t : Tally) (sums : AddsUp t) (room : t.rows < 18_446_744_073_709_551_6
   counted_adds Agrees = record {
     sum = omega (arith, sums.sum, one_more_lem t.rows room, one_more_lem t.agreed (omega (arith, sums.sum)));
     named = sums.named;
+    numbered = sums.numbered;
   }
   counted_adds Listed = record {
     sum = omega (arith, sums.sum, one_more_lem t.rows room, one_more_lem t.listed (omega (arith, sums.sum)));
     named = sums.named;
+    numbered = sums.numbered;
   }
   counted_adds Differs = record {
     sum = omega (arith, sums.sum, one_more_lem t.rows room, one_more_lem t.other (omega (arith, sums.sum)));
     named = (λ e. absurd (first_named t.first _ e), λ e. absurd (omega (arith, e, one_more_lem t.other (omega (arith, sums.sum)))));
+    numbered = not_0 t.first (one_more t.rows) sums.numbered (λ e. omega (arith, e, one_more_lem t.rows room));
   }
 
   -- whether a row ended or not
@@ -61,4 +69,4 @@ bytes_add p (byte ∷ bytes) sums room =
     bytes_add (after_byte p byte) bytes one.0 (omega (arith, one.1))
 
 pub adds_up : (bytes : List ℕ) → length bytes < 2 ^ 64 → AddsUp (after_bytes no_bytes bytes).tally
-adds_up bytes h = bytes_add no_bytes bytes record { sum = refl; named = (λ e. refl, λ e. refl) } (omega arith)
+adds_up bytes h = bytes_add no_bytes bytes record { sum = refl; named = (λ e. refl, λ e. refl); numbered = λ e. cc } (omega arith)

@@ -1,11 +1,11 @@
 -- Every number has a text, every row of numbers too, and any digits are a number; and what a tally that adds up tells. Assumes nothing.
 use Prim.Native.Nat.{ℕ, zero, suc, ◌+◌, ◌*◌, ◌/◌, ◌-◌, ◌%◌, ◌^◌, ◌≤◌, ◌<◌}
 use mathlib.Core.Path.{◌≡◌, sym, subst}
-use mathlib.Core.Logic.{◌↔◌}
+use mathlib.Core.Logic.{◌≢◌, ◌↔◌}
 use mathlib.Core.List.{List, [], ◌∷◌, ◌++◌, append_assoc, append-nil}
 use native.Mathlib.Omega.{arith}
 use lib.ListN.{length, get_or}
-use Rattle.std.specs.Prelude.{None}
+use Rattle.std.specs.Prelude.{None, Some}
 use Rattle.basics.proofs.Decided.{below, beyond, below?}
 use Rattle.oracle_lists.specs.declared.tally.Tally.{Tally}
 use Rattle.oracle_lists.specs.Facts.{Decimal, one_digit, digit_more, Numbers, none, number_more, Written, RowWritten, AddsUp}
@@ -43,8 +43,8 @@ hides_none t a e = omega (arith, a.sum, a.named.0 e)
 pub names_none : (t : Tally) → AddsUp t → t.agreed + t.listed ≡ t.rows → t.first ≡ None
 names_none t a e = a.named.1 (omega (arith, a.sum))
 
-pub adds_up_exactly : (t : Tally) → AddsUp t ↔ ((t.agreed + t.listed + t.other ≡ t.rows) × ((t.first ≡ None) ↔ (t.other ≡ 0)))
-adds_up_exactly t = (λ a. (a.sum, a.named), λ h. record { sum = h.0; named = h.1 })
+pub adds_up_exactly : (t : Tally) → AddsUp t ↔ ((t.agreed + t.listed + t.other ≡ t.rows) × ((t.first ≡ None) ↔ (t.other ≡ 0)) × (t.first ≢ Some 0))
+adds_up_exactly t = (λ a. (a.sum, a.named, a.numbered), λ h. record { sum = h.0; named = h.1; numbered = h.2 })
 
 -- ---- any digits are a number
 abbrev AllDigits : List ℕ → Type 0

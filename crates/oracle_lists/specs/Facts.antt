@@ -1,6 +1,6 @@
 -- What the definitions beside this file give a reader to rely on: a row that is written is read, and judged if it is one of classes; every row of
 -- numbers can be written; and the tally of a list of classes adds up. One record, which proofs/Facts.antt makes. Assumes nothing.
-use Rattle.std.specs.Prelude.{ℕ, ◌+◌, ◌*◌, ◌^◌, ◌≤◌, ◌<◌, ◌≡◌, ◌↔◌, true, List, [], ◌∷◌, ◌++◌, length, get_or, None}
+use Rattle.std.specs.Prelude.{ℕ, ◌+◌, ◌*◌, ◌^◌, ◌≤◌, ◌<◌, ◌≡◌, ◌≢◌, ◌↔◌, true, List, [], ◌∷◌, ◌++◌, length, get_or, None, Some}
 use Rattle.oracle_lists.specs.declared.rows.State.TheVariants.{Within}
 use Rattle.oracle_lists.specs.declared.rows.Reader.{Reader}
 use Rattle.oracle_lists.specs.declared.tally.Tally.{Tally}
@@ -43,10 +43,11 @@ unfoldable pub with_numbers : Reader → List ℕ → Reader
 with_numbers r [] = r
 with_numbers r (n ∷ ns) = with_numbers (with_number r n) ns
 
--- each row is counted under one verdict, and a row is named as the first that differs exactly if one does
+-- each row is counted under one verdict, and a row is named as the first that differs exactly if one does, by a number from 1 on
 pub record AddsUp (t : Tally) : Type 0 where
   pub sum : t.agreed + t.listed + t.other ≡ t.rows
   pub named : (t.first ≡ None) ↔ (t.other ≡ 0)
+  pub numbered : t.first ≢ Some 0
 
 -- a row that begins where the last one ended, or the list begins: its text, and what is read
 abbrev pub row_text : ℕ → List ℕ → List ℕ
@@ -114,7 +115,7 @@ pub record ListFacts : Type 0 where
   pub class_rows : ClassRows
   pub size_rows : SizeRows
   -- what a tally that adds up says of its counters: neither less nor more
-  pub adds_up_exactly : (t : Tally) → AddsUp t ↔ ((t.agreed + t.listed + t.other ≡ t.rows) × ((t.first ≡ None) ↔ (t.other ≡ 0)))
+  pub adds_up_exactly : (t : Tally) → AddsUp t ↔ ((t.agreed + t.listed + t.other ≡ t.rows) × ((t.first ≡ None) ↔ (t.other ≡ 0)) × (t.first ≢ Some 0))
   -- a tally that adds up and names no row hides none: all its rows agreed or are listed; and where they all do, it names none
   pub hides_none : (t : Tally) → AddsUp t → t.first ≡ None → t.agreed + t.listed ≡ t.rows
   pub names_none : (t : Tally) → AddsUp t → t.agreed + t.listed ≡ t.rows → t.first ≡ None

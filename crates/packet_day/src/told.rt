@@ -21,7 +21,7 @@ pub struct Counts {
     pub differing: u32,
 }
 
-#[derive(Drop)]
+#[derive(Clone, Copy)]
 pub struct Told {
     seed: u32,
     pub digest: u32,

@@ -14,6 +14,7 @@
 //   a STORE                  audit
 use crate::lines::Line;
 use driving::rows;
+use journal_lines::Lines;
 use oracle_lists::rows::Reader;
 use packet_copies::making::Asked;
 use packet_copies::questions::Question;
@@ -21,7 +22,7 @@ use packet_copies::setting_up::Wanted;
 use packet_copies::sides::{Side, Sides};
 use packet_copies::{making, sides};
 use packets::{Both, Packet, Store};
-use std::io;
+use std::fmt::Write;
 
 // More rows than the list has.
 const MOST: u32 = 2000;
@@ -119,28 +120,28 @@ fn with_count(before: Sides, store: Store, count: u32) -> Sides {
     before.with(store, spoiled)
 }
 
-// The call is made and its line printed; both stores after it.
-fn call(rt: &impl Print, before: Sides, asked: Asked) -> io::Result<Sides> {
+// The call is made and its line gathered with the others; both stores after it.
+fn call(out: &mut Lines, before: Sides, asked: Asked) -> Sides {
     let made = making::make(asked, before);
     let line = Line {
         before: &before,
         made: &made,
     };
-    println!(rt; "{line}")?;
-    Ok(made.after)
+    let _ = writeln!(out, "{line}");
+    made.after
 }
 
-fn step(rt: &impl Print, before: Sides, row: Row) -> io::Result<Sides> {
+fn step(out: &mut Lines, before: Sides, row: Row) -> Sides {
     match row {
-        Row::Call(asked) => call(rt, before, asked),
-        Row::Anew => Ok(no_stores()),
-        Row::Lend(on, ex) => Ok(lend(before, on, ex)),
-        Row::Count(store, count) => Ok(with_count(before, store, count)),
+        Row::Call(asked) => call(out, before, asked),
+        Row::Anew => no_stores(),
+        Row::Lend(on, ex) => lend(before, on, ex),
+        Row::Count(store, count) => with_count(before, store, count),
     }
 }
 
 // Every row to the end of the list.
-pub fn print(rt: &impl Print) -> io::Result<()> {
+pub fn print(out: &mut Lines) {
     let mut sides = no_stores();
     for number in 1..=MOST {
         let row = rows::next();
@@ -148,8 +149,8 @@ pub fn print(rt: &impl Print) -> io::Result<()> {
             break;
         }
         if let Some(asked) = asked(row, number) {
-            sides = step(rt, sides, asked)?;
+            sides = step(out, sides, asked);
         }
     }
-    Ok(())
+    out.flush();
 }

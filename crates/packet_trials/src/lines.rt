@@ -3,14 +3,19 @@ use packet_copies::sides::{BYTES, Side, Sides};
 use packet_copies::told::{Made, Told};
 use std::fmt;
 
-// Bytes, two hexadecimal digits each.
+const DIGITS: [&str; 16] = [
+    "0", "1", "2", "3", "4", "5", "6", "7", "8", "9", "a", "b", "c", "d", "e", "f",
+];
+
+// Bytes, two hexadecimal digits each, from a table: a format of its own for each byte took half of a run.
 #[derive(Clone, Copy)]
 struct Hexadecimal<'a>(&'a [u8]);
 
 impl<'a> fmt::Display for Hexadecimal<'a> {
     fn fmt<W: fmt::Write>(&self, f: &mut fmt::Formatter<W>) -> fmt::Result {
         for byte in self.0 {
-            write!(f, "{byte:02x}")?;
+            f.write_str(DIGITS[usize::from(byte / 16)])?;
+            f.write_str(DIGITS[usize::from(byte % 16)])?;
         }
         Ok(())
     }

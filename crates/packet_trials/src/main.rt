@@ -5,8 +5,8 @@
 mod cases;
 mod lines;
 
-use std::io;
+use journal_lines::Lines;
 
-fn main(rt: HostRuntime) -> io::Result<()> {
-    cases::print(&rt)
+fn main() {
+    cases::print(&mut Lines::new());
 }

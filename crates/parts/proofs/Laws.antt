@@ -1,13 +1,29 @@
 -- Laws of a part that is lent, written and put back. Assumes nothing.
-use Prim.Native.Nat.{ℕ, ◌+◌, ◌-◌, ◌≤◌}
-use native.Mathlib.Nat.{add-sub_cancel_left}
+use Prim.Native.Nat.{ℕ, suc, ◌+◌, ◌-◌, ◌≤◌, ◌<◌}
+use native.Mathlib.Nat.{add-sub_cancel_left, le_of_lt}
+use native.Mathlib.Numerals.{add-one}
 use native.Mathlib.Omega.{arith}
 use mathlib.Core.List.{List, ◌++◌, append_assoc}
 use mathlib.Core.Path.{◌≡◌, sym, ap, subst, ◌∙◌}
-use lib.ListN.{length, take, drop, replicate, length-drop, length-replicate, take-append-drop}
-use lib.Seq.{length-take-le, drop-append-le, drop-drop}
+use lib.ListN.{length, take, drop, get_or, set, replicate, length-drop, length-replicate, take-append-drop}
+use lib.Seq.{drop-cons, set_at, append_snoc, take-suc, length-take-le, drop-append-le, drop-drop, take-length}
 use borrow.Rule.Slice.PartMut.{put_mid}
 use Rattle.parts.specs.Bytes.{over, not_heard, marked}
+
+-- d with its first i elements from s
+abbrev pub copied : List ℕ → List ℕ → ℕ → List ℕ
+copied d s i = take i s ++ drop i d
+
+pub copied_next : (d s : List ℕ) (i : ℕ) → i < length d → i < length s → set (copied d s i) i (get_or s i 0) ≡ copied d s (i + 1)
+copied_next d s i hd hs =
+    ap (λ (r : List ℕ). set (take i s ++ r) i (get_or s i 0)) (drop-cons d i 0 hd)
+    ∙ set_at (take i s) (get_or d i 0) (drop (suc i) d) (get_or s i 0) i (length-take-le i s (le_of_lt hs))
+    ∙ sym (append_snoc (take i s) (get_or s i 0) (drop (suc i) d))
+    ∙ ap (λ (r : List ℕ). r ++ drop (suc i) d) (sym (take-suc s i 0 hs))
+    ∙ ap (λ (k : ℕ). copied d s k) (sym (add-one i))
+
+pub copied_all : (d s : List ℕ) → copied d s (length s) ≡ s ++ drop (length s) d
+copied_all d s = ap (λ (r : List ℕ). r ++ drop (length s) d) (take-length s)
 
 -- a part that was lent, got w at its front and came back
 part_over : (s w : List ℕ) (a n : ℕ) → a + n ≤ length s → length w ≤ n

@@ -8,12 +8,14 @@ ghost use Rattle.parts.specs.Bytes.{part_of, over, marked};
 // Our mark for not heard.
 pub const NOT_HEARD: u8 = 255;
 
-// The bytes are written at the front of the part.
-fn fill_front(part: &mut [u8], bytes: &[u8])
+// The bytes are written at the front of the part. One by one: `copy_from_slice` is a `memmove`, which the archives for C do not ask of their host.
+pub fn fill_front(part: &mut [u8], bytes: &[u8])
     requires { length bytes.now ≤ length part.old }
     ensures { part.new ≡ bytes.now ++ drop (length bytes.now) part.old }
 {
-    part[..bytes.len()].copy_from_slice(bytes);
+    for i in 0..bytes.len() {
+        part[i] = bytes[i];
+    }
 }
 
 // The part of a fresh grant: every byte of it is our mark for not heard.

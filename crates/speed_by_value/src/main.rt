@@ -8,8 +8,7 @@
 
 use driving::by_value::ByValue;
 use driving::{form, rows};
-use std::io;
 
-fn main(rt: HostRuntime) -> io::Result<()> {
-    rows::drive_each(&rt, b'v', form::drive::<ByValue>)
+fn main(rt: HostRuntime) {
+    rows::drive_each(&rt, b'v', form::drive::<ByValue>);
 }

@@ -14,7 +14,6 @@ use driving::held::NO_SPAN;
 use driving::in_place::InPlace;
 use driving::rows::Plan;
 use driving::{again, form, rows};
-use std::io;
 
 const FEW: u32 = 1024;
 
@@ -53,7 +52,7 @@ fn work_on(
     free_nodes: &mut [u32],
     out: &mut [Allocation],
     scratch: &mut [u32],
-) -> io::Result<()> {
+) {
     let mut bin_indices = [0u32; 256];
     let mut used_bins = [0u8; 32];
     let plan = work.plan;
@@ -71,7 +70,7 @@ fn work_on(
         bin_indices,
         used_bins,
     };
-    println!(rt; "{}", form::run(plan, &mut head, nodes, free_nodes, out))?;
+    let _ = println!(rt; "{}", form::run(plan, &mut head, nodes, free_nodes, out));
     let t = head.totals;
     if again::audit(
         work.audits,
@@ -82,9 +81,8 @@ fn work_on(
         free_nodes,
         scratch,
     ) {
-        println!(rt; "sound")?;
+        let _ = println!(rt; "sound");
     }
-    Ok(())
 }
 
 // The tables lent as slices, here where their lengths are no numbers that a proof would count out.
@@ -95,11 +93,11 @@ fn lend<const NODES: usize, const FREE_NODES: usize, const OUT: usize, const SCR
     free_nodes: &mut [u32; FREE_NODES],
     out: &mut [Allocation; OUT],
     scratch: &mut [u32; SCRATCH],
-) -> io::Result<()> {
-    work_on(rt, work, nodes, free_nodes, out, scratch)
+) {
+    work_on(rt, work, nodes, free_nodes, out, scratch);
 }
 
-fn on_few(rt: &impl Print, work: Work) -> io::Result<()> {
+fn on_few(rt: &impl Print, work: Work) {
     let mut nodes = [0u32; 8192];
     let mut free_nodes = [0u32; 1024];
     let mut out = [NO_SPAN; 1024];
@@ -111,12 +109,12 @@ fn on_few(rt: &impl Print, work: Work) -> io::Result<()> {
         &mut free_nodes,
         &mut out,
         &mut scratch,
-    )
+    );
 }
 
 // It calls itself and is not to be put into its caller, where these tables would be on the stack with few records too.
 #[inline(never)]
-fn on_many(rt: &impl Print, work: Work, again: u32) -> io::Result<()> {
+fn on_many(rt: &impl Print, work: Work, again: u32) {
     let mut nodes = [0u32; 8388608];
     let mut free_nodes = [0u32; 1048576];
     let mut out = [NO_SPAN; 1048576];
@@ -128,26 +126,24 @@ fn on_many(rt: &impl Print, work: Work, again: u32) -> io::Result<()> {
         &mut free_nodes,
         &mut out,
         &mut scratch,
-    )?;
+    );
     if 0 < again {
-        on_many(rt, work, again - 1)?;
+        on_many(rt, work, again - 1);
     }
-    Ok(())
 }
 
-fn answer(rt: &impl Print, work: Work) -> io::Result<()> {
+fn answer(rt: &impl Print, work: Work) {
     if FEW < work.plan.records {
-        on_many(rt, work, work.again)
+        on_many(rt, work, work.again);
     } else {
-        on_few(rt, work)
+        on_few(rt, work);
     }
 }
 
-fn main(rt: HostRuntime) -> io::Result<()> {
+fn main(rt: HostRuntime) {
     for _ in 0..2 {
         if let Some(work) = next() {
-            answer(&rt, work)?;
+            answer(&rt, work);
         }
     }
-    Ok(())
 }

@@ -8,8 +8,7 @@
 
 use driving::in_place::InPlace;
 use driving::{form, rows};
-use std::io;
 
-fn main(rt: HostRuntime) -> io::Result<()> {
-    rows::drive_each(&rt, b'p', form::drive::<InPlace>)
+fn main(rt: HostRuntime) {
+    rows::drive_each(&rt, b'p', form::drive::<InPlace>);
 }

@@ -13,17 +13,16 @@ use driving::in_place::InPlace;
 use driving::rows::Plan;
 use driving::{form, rows};
 use oracle_lists::rows::Reader;
-use std::io;
 
-fn answer(rt: &impl Print, row: Reader) -> io::Result<()> {
-    match (row.letter, row.fields) {
+fn answer(rt: &impl Print, row: Reader) {
+    let _ = match (row.letter, row.fields) {
         (b'p', 4) => println!(rt; "{}", form::drive::<InPlace>(Plan::from(row))),
         (b'a', 2) if audits::drive(row.c, row.d) => println!(rt; "sound"),
         (b'a', 2) => Ok(()),
         _ => println!(rt; "a row is p RUN SIZE RECORDS CALLS or a SETUPS AUDITS"),
-    }
+    };
 }
 
-fn main(rt: HostRuntime) -> io::Result<()> {
-    rows::each_row(rows::MOST_ROWS, |row| answer(&rt, row))
+fn main(rt: HostRuntime) {
+    rows::each_row(rows::MOST_ROWS, |row| answer(&rt, row));
 }

@@ -9,8 +9,7 @@
 mod journaled;
 
 use driving::rows;
-use std::io;
 
-fn main(rt: HostRuntime) -> io::Result<()> {
-    rows::drive_each(&rt, b'p', journaled::drive)
+fn main(rt: HostRuntime) {
+    rows::drive_each(&rt, b'p', journaled::drive);
 }

@@ -8,8 +8,7 @@
 
 use driving::lent::Lent;
 use driving::{form, rows};
-use std::io;
 
-fn main(rt: HostRuntime) -> io::Result<()> {
-    rows::drive_each(&rt, b'l', form::drive::<Lent>)
+fn main(rt: HostRuntime) {
+    rows::drive_each(&rt, b'l', form::drive::<Lent>);
 }

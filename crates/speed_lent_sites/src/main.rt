@@ -13,16 +13,15 @@ use driving::lent::Lent;
 use driving::rows::Plan;
 use driving::{form, rows};
 use oracle_lists::rows::Reader;
-use std::io;
 
-fn answer(rt: &impl Print, row: Reader) -> io::Result<()> {
-    match (row.letter, row.fields) {
+fn answer(rt: &impl Print, row: Reader) {
+    let _ = match (row.letter, row.fields) {
         (b'l', 4) => println!(rt; "{}", form::drive::<Lent>(Plan::from(row))),
         (b'o', 4) => println!(rt; "refusal {}", once::drive(row.a, row.b, row.c, row.d)),
         _ => println!(rt; "a row is l RUN SIZE RECORDS CALLS or o SIZE RECORDS LENGTH HANDLE"),
-    }
+    };
 }
 
-fn main(rt: HostRuntime) -> io::Result<()> {
-    rows::each_row(rows::MOST_ROWS, |row| answer(&rt, row))
+fn main(rt: HostRuntime) {
+    rows::each_row(rows::MOST_ROWS, |row| answer(&rt, row));
 }

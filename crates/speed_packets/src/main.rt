@@ -13,19 +13,18 @@ mod packed;
 
 use driving::rows;
 use oracle_lists::rows::Reader;
-use std::io;
 
 // The kind, and the byte.
-fn answer(rt: &impl Print, row: Reader) -> io::Result<()> {
-    match (row.letter, row.fields) {
+fn answer(rt: &impl Print, row: Reader) {
+    let _ = match (row.letter, row.fields) {
         (b't', 2) => println!(rt; "t {}", bare::spans(row.c, row.d)),
         (b'k', 2) => println!(rt; "k {}", packed::packets(false, row.c, row.d)),
         (b'c', 2) => println!(rt; "c {}", bare::copies(row.c, row.d)),
         (b'f', 2) => println!(rt; "f {}", packed::packets(true, row.c, row.d)),
         _ => println!(rt; "a row is t, k, c or f, LENGTH TURNS"),
-    }
+    };
 }
 
-fn main(rt: HostRuntime) -> io::Result<()> {
-    rows::each_row(4, |row| answer(&rt, row))
+fn main(rt: HostRuntime) {
+    rows::each_row(4, |row| answer(&rt, row));
 }

@@ -1,11 +1,6 @@
 -- A full report's columns, a class at a time. Assumes nothing.
-use Prim.Native.Nat.{ℕ, zero, suc, ◌+◌, ◌<◌, ◌≤◌}
-use mathlib.Core.Path.{◌≡◌, refl, sym, ap, ◌∙◌}
-use Rattle.std.proofs.Common.{Bool, not, nat_eq, length, take, add-one}
-use Rattle.std.proofs.Math.Seq.{take-length}
-use Rattle.std.specs.List.{count_by}
-use Rattle.std.proofs.lemmas.List.Sums.{count_by_more_no, count_by_more_yes}
-use Rattle.basics.proofs.Decided.{same?, same, differ}
+use Prim.Native.Nat.{ℕ, zero, suc, ◌+◌, ◌<◌}
+use mathlib.Core.Path.{◌≡◌, refl, ap, ◌∙◌}
 use mathlib.Core.List.{List, map}
 use native.Mathlib.Nat.{add-zero, zero-add}
 use native.Mathlib.Omega.{arith}
@@ -24,10 +19,6 @@ at_column f (suc i) (suc n) r h = at_column f i n (suc r) (omega arith) ∙ ap f
 unfoldable pub held_below : (n : ℕ) → (counts : List ℕ) → ℕ
 held_below zero counts = 0
 held_below (suc n) counts = held_below n counts + one_if_held (get_or counts n 0)
-
--- a class holds something
-abbrev pub holds : ℕ → Bool
-holds count = not (nat_eq count 0)
 
 none_below : (counts : List ℕ) → held_below 0 counts ≡ 0
 unfolding held_below
@@ -48,23 +39,5 @@ module _ (sizes counts : List ℕ) where
   held_to : (n : ℕ) → held_below n counts ≡ classes_held (map class_at (numbers_from 0 n))
   held_to n = omega (arith, held_from n 0, none_below counts, ap (λ m. held_below m counts) (zero-add n))
 
-  -- counted where they stand: those of the first n that are not 0
-  held_count : (n : ℕ) → n ≤ length counts → count_by holds (take n counts) ≡ held_below n counts
-  unfolding held_below
-  held_count zero h = refl
-  held_count (suc n) h =
-      let up : take (suc n) counts ≡ take (n + 1) counts = ap (λ (m : ℕ). take m counts) (sym (add-one n)) in
-      ap (count_by holds) up ∙ (elim (same? (get_or counts n 0) 0) [
-        | same p e ↦
-            let none : one_if_held (get_or counts n 0) ≡ 0 = rw e in
-            omega (arith, held_count n (omega arith), count_by_more_no holds counts n 0 (omega arith) (rw e), none)
-        | differ p e ↦
-            let some : one_if_held (get_or counts n 0) ≡ 1 = rw e in
-            omega (arith, held_count n (omega arith), count_by_more_yes holds counts n 0 (omega arith) (rw e), some)
-      ])
-
-  take_all : length counts ≡ 256 → take 256 counts ≡ counts
-  take_all h = ap (λ (n : ℕ). take n counts) (sym h) ∙ take-length counts
-
-  pub held_in_columns : length counts ≡ 256 → count_by holds counts ≡ classes_held (columns sizes counts)
-  held_in_columns h = ap (count_by holds) (sym (take_all h)) ∙ held_count 256 (omega arith) ∙ held_to 256
+  pub held_in_columns : held_below 256 counts ≡ classes_held (columns sizes counts)
+  held_in_columns = held_to 256

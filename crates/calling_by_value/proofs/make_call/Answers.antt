@@ -1,7 +1,7 @@
 -- By the call that came. Assumes nothing.
 use Rattle.telling.specs.Made.{by_value}
 use Rattle.telling.proofs.Promised.{as_came}
-use Rattle.calling_by_value.proofs.make.Goals as goal
+use Rattle.calling_by_value.proofs.make_call.Goals as goal
 
 pub returns-in-SetUp : goal.returns-in-SetUp
 returns-in-SetUp c =
