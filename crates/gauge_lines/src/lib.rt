@@ -26,21 +26,23 @@ fn signed(sign: &[u8], n: u64, places: usize, out: &mut Lines) {
     let count = io::decimal(n, &mut digits);
     blanks(places.saturating_sub(count).saturating_sub(sign.len()), out);
     out.put(sign);
-    out.number(n);
+    out.put(&digits[..count]);
 }
 
 fn number(n: u64, places: usize, out: &mut Lines) {
     signed(b"", n, places, out);
 }
 
+// The last digit.
+fn digit(n: u64) -> u8 {
+    b'0' + (n % 10) as u8
+}
+
 // A number with three digits behind the point, at the end of nine places.
 fn fraction(x: f32, out: &mut Lines) {
     let n = thousandths(x);
     number(n / 1000, 5, out);
-    out.put(b".");
-    out.number(n / 100 % 10);
-    out.number(n / 10 % 10);
-    out.number(n % 10);
+    out.put(&[b'.', digit(n / 100), digit(n / 10), digit(n)]);
 }
 
 // How far a number is from 0.

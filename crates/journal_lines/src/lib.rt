@@ -52,8 +52,11 @@ impl Lines {
         self.waiting += 1;
     }
 
-    // As many bytes as there is room for are copied at once; past that they go one by one.
+    // One byte, as many texts have, goes as it is; as many as there is room for are copied at once; past that they go one by one.
     pub fn put(&mut self, text: &[u8]) {
+        if let [byte] = text {
+            return self.byte(*byte);
+        }
         if text.len() <= ROOM - self.waiting {
             let end = self.waiting + text.len();
             self.bytes[self.waiting..end].copy_from_slice(text);
@@ -93,7 +96,7 @@ impl Lines {
     // The same as a line.
     pub fn answer_line(&mut self, answer: Answer) {
         self.answer(answer);
-        self.put(b"\n");
+        self.byte(b'\n');
     }
 
     // What it prints last, where a record cannot be read.
