@@ -7,7 +7,7 @@ const DIGITS: [&str; 16] = [
     "0", "1", "2", "3", "4", "5", "6", "7", "8", "9", "a", "b", "c", "d", "e", "f",
 ];
 
-// Bytes, two hexadecimal digits each, from a table: a format of its own for each byte took half of a run.
+// Bytes, two hexadecimal digits each, from a table: a format of its own for each byte takes longer.
 #[derive(Clone, Copy)]
 struct Hexadecimal<'a>(&'a [u8]);
 

@@ -8,7 +8,8 @@ ghost use Rattle.parts.specs.Bytes.{part_of, over, marked};
 // Our mark for not heard.
 pub const NOT_HEARD: u8 = 255;
 
-// The bytes are written at the front of the part. One by one: `copy_from_slice` is a `memmove`, which the archives for C do not ask of their host.
+// The bytes are written at the front of the part; that they have room there is asked, since whoever lends a part has tested it. One by one:
+// `copy_from_slice` is a `memmove`, which the archives for C do not ask of their host.
 pub fn fill_front(part: &mut [u8], bytes: &[u8])
     requires { length bytes.now ≤ length part.old }
     ensures { part.new ≡ bytes.now ++ drop (length bytes.now) part.old }

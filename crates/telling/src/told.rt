@@ -84,7 +84,7 @@ fn count_one(held: u32, count: u32) -> u32
     if count == 0 { held } else { held + 1 }
 }
 
-// By its places: along a chain of iterators the columns are laid out in memory, and it takes twice as long.
+// By its places, and no chain of iterators: `of_classes` says why.
 fn count_held(counts: &[u32; 256]) -> u32
     ensures { (sizes : List ℕ) → result ≡ classes_held (columns sizes counts.now) }
 {
@@ -95,8 +95,8 @@ fn count_held(counts: &[u32; 256]) -> u32
     held
 }
 
-// How many classes of a full report hold something. The counts are taken out first: with the whole of it lent the values are worked out too, which
-// nobody reads, and that takes three times as long.
+// How many classes of a full report hold something. The counts are taken out first, and gone over by their places: lent as part of the whole to a
+// chain of iterators, they had the values worked out too, which nobody reads, and a list of such questions took twice as long.
 pub fn of_classes(full: FullAnswer) -> Answer
     ensures { result ≡ told_as held_in (full_says full) }
 {
