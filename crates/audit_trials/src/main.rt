@@ -10,5 +10,5 @@ use rows::Comparison;
 fn main(rt: HostRuntime) {
     let mut comparison = Comparison::new();
     input::for_each_block(&rt, |bytes| comparison.feed_all(bytes));
-    input::print_outcome(&rt, comparison.read.tally, comparison.read.reader);
+    input::print_outcome_and_go_on(&rt, comparison.read.tally, comparison.read.reader);
 }

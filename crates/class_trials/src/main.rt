@@ -7,5 +7,5 @@ use oracle_lists::input;
 fn main(rt: HostRuntime) {
     let mut comparison = Comparison::new();
     input::for_each_block(&rt, |bytes| comparison = comparison.feed_all(bytes));
-    input::print_outcome(&rt, comparison.tally, comparison.reader);
+    input::print_outcome_and_go_on(&rt, comparison.tally, comparison.reader);
 }

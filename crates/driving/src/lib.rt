@@ -5,6 +5,7 @@
 pub mod again;
 pub mod by_value;
 pub mod form;
+pub mod going_on;
 pub mod held;
 pub mod in_place;
 pub mod lent;

@@ -53,20 +53,30 @@ pub fn is(row: Reader, letter: u8, fields: u32) -> bool {
     row.letter == letter && row.fields == fields
 }
 
-// So many rows of the input at most, each answered; a row that is not whole is passed over.
-pub fn each_row<F: FnMut(Reader)>(most: u32, mut answer: F)
+// So many rows of the input at most, each answered; a row that is not whole is passed over. The first answer that fails ends it, and is handed on to
+// whoever has to know; `going_on` has the same of answers that cannot fail.
+pub fn each_row<F: FnMut(Reader) -> std::io::Result<()>>(
+    most: u32,
+    mut answer: F,
+) -> std::io::Result<()>
     requires { F.IsAlwaysCallable answer }
 {
     for _ in 0..most {
         let row = next();
         if row.is_whole() {
-            answer(row);
+            answer(row)?;
         }
     }
+    Ok(())
 }
 
-// The rows of the input, each a run: `LETTER RUN SIZE RECORDS CALLS`, with the form's letter.
-pub fn drive_each<R: Print, F: FnMut(Plan) -> Draws>(rt: &R, letter: u8, mut drive: F)
+// The rows of the input, each a run: `LETTER RUN SIZE RECORDS CALLS`, with the form's letter. The first print that fails ends it, and is handed on to
+// whoever has to know; the programs here go on (`going_on`).
+pub fn drive_each<R: Print, F: FnMut(Plan) -> Draws>(
+    rt: &R,
+    letter: u8,
+    mut drive: F,
+) -> std::io::Result<()>
     requires { F.IsAlwaysCallable drive }
 {
     for _ in 0..MOST_ROWS {
@@ -75,9 +85,10 @@ pub fn drive_each<R: Print, F: FnMut(Plan) -> Draws>(rt: &R, letter: u8, mut dri
             continue;
         }
         if is(row, letter, 4) {
-            let _ = println!(rt; "{}", drive(Plan::from(row)));
+            println!(rt; "{}", drive(Plan::from(row)))?;
         } else {
-            let _ = println!(rt; "a row is {} RUN SIZE RECORDS CALLS", char::from(letter));
+            println!(rt; "a row is {} RUN SIZE RECORDS CALLS", char::from(letter))?;
         }
     }
+    Ok(())
 }

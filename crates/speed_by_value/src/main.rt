@@ -7,8 +7,8 @@
 #![tactic(auto)]
 
 use driving::by_value::ByValue;
-use driving::{form, rows};
+use driving::{form, going_on};
 
 fn main(rt: HostRuntime) {
-    rows::drive_each(&rt, b'v', form::drive::<ByValue>);
+    going_on::drive_all(&rt, b'v', form::drive::<ByValue>);
 }

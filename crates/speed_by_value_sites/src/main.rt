@@ -11,7 +11,7 @@ mod once;
 
 use driving::by_value::ByValue;
 use driving::rows::Plan;
-use driving::{form, rows};
+use driving::{form, going_on, rows};
 use oracle_lists::rows::Reader;
 
 fn answer(rt: &impl Print, row: Reader) {
@@ -23,5 +23,5 @@ fn answer(rt: &impl Print, row: Reader) {
 }
 
 fn main(rt: HostRuntime) {
-    rows::each_row(rows::MOST_ROWS, |row| answer(&rt, row));
+    going_on::for_each_row(rows::MOST_ROWS, |row| answer(&rt, row));
 }

@@ -7,8 +7,8 @@
 #![tactic(auto)]
 
 use driving::in_place::InPlace;
-use driving::{form, rows};
+use driving::{form, going_on};
 
 fn main(rt: HostRuntime) {
-    rows::drive_each(&rt, b'p', form::drive::<InPlace>);
+    going_on::drive_all(&rt, b'p', form::drive::<InPlace>);
 }

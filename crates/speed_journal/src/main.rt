@@ -8,8 +8,8 @@
 
 mod journaled;
 
-use driving::rows;
+use driving::going_on;
 
 fn main(rt: HostRuntime) {
-    rows::drive_each(&rt, b'p', journaled::drive);
+    going_on::drive_all(&rt, b'p', journaled::drive);
 }

@@ -7,8 +7,8 @@
 #![tactic(auto)]
 
 use driving::lent::Lent;
-use driving::{form, rows};
+use driving::{form, going_on};
 
 fn main(rt: HostRuntime) {
-    rows::drive_each(&rt, b'l', form::drive::<Lent>);
+    going_on::drive_all(&rt, b'l', form::drive::<Lent>);
 }

@@ -11,7 +11,7 @@
 mod bare;
 mod packed;
 
-use driving::rows;
+use driving::going_on;
 use oracle_lists::rows::Reader;
 
 // The kind, and the byte.
@@ -26,5 +26,5 @@ fn answer(rt: &impl Print, row: Reader) {
 }
 
 fn main(rt: HostRuntime) {
-    rows::each_row(4, |row| answer(&rt, row));
+    going_on::for_each_row(4, |row| answer(&rt, row));
 }

@@ -148,5 +148,5 @@ pub fn compare_input(
     input::for_each_block(rt, |bytes| {
         comparison.feed_all(bytes, nodes, free_nodes, value_nodes, value_free_nodes)
     });
-    input::print_outcome(rt, comparison.tally, comparison.reader);
+    input::print_outcome_and_go_on(rt, comparison.tally, comparison.reader);
 }
