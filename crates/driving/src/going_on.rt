@@ -1,5 +1,5 @@
 // The rows of the input answered by programs that go on where a print fails, as all programs here do. `rows` has the same for whoever has to know of
-// the failure: it ends there, and hands it on.
+// the failure: it ends there, and hands it on. Both ask that what is called for a row may be called at any, since no row is known before.
 use crate::progress::Draws;
 use crate::rows;
 use crate::rows::Plan;

@@ -54,7 +54,7 @@ pub fn is(row: Reader, letter: u8, fields: u32) -> bool {
 }
 
 // So many rows of the input at most, each answered; a row that is not whole is passed over. The first answer that fails ends it, and is handed on to
-// whoever has to know; `going_on` has the same of answers that cannot fail.
+// whoever has to know; `going_on` has the same of answers that cannot fail. It asks that the answer may be called at any row, since none is known before.
 pub fn each_row<F: FnMut(Reader) -> std::io::Result<()>>(
     most: u32,
     mut answer: F,
@@ -71,7 +71,7 @@ pub fn each_row<F: FnMut(Reader) -> std::io::Result<()>>(
 }
 
 // The rows of the input, each a run: `LETTER RUN SIZE RECORDS CALLS`, with the form's letter. The first print that fails ends it, and is handed on to
-// whoever has to know; the programs here go on (`going_on`).
+// whoever has to know; the programs here go on (`going_on`). It asks of the run what `each_row` asks of the answer.
 pub fn drive_each<R: Print, F: FnMut(Plan) -> Draws>(
     rt: &R,
     letter: u8,
